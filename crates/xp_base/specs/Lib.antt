@@ -1,0 +1,9 @@
+pub mod Counts
+pub mod Told
+pub mod Points
+pub mod Lists
+pub mod Grid
+pub mod Captures
+pub mod Streams
+pub mod Memory
+pub mod Answers
