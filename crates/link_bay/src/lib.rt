@@ -1,0 +1,24 @@
+//! Connections as a server sees them: the trait of their provider, the orders that a provider in
+//! memory takes, and providers in memory.
+#![tactic(auto)]
+
+mod bay;
+mod counters;
+mod mute_bay;
+mod one_bay;
+mod order;
+mod passing_bay;
+mod peer;
+mod writes;
+
+pub use bay::{Accept, Bay, Gave, Wrote};
+pub use counters::Counters;
+pub use mute_bay::MuteBay;
+pub use one_bay::OneBay;
+pub use order::{Kind, Name, Order};
+pub use passing_bay::PassingBay;
+pub use peer::EXACT_HELLO;
+pub use writes::Write;
+
+#[cfg(test)]
+mod tests;
