@@ -1,0 +1,6 @@
+pub mod Examples
+pub mod Written
+pub mod Lengths
+pub mod Shown
+pub mod Points
+pub mod Encodings

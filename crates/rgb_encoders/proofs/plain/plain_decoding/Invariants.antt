@@ -1,0 +1,9 @@
+use Rattle.std.proofs.Common.{◌≡◌, ◌+◌, ◌*◌}
+use Rattle.rgb_encoders.proofs.Points.{first_decoded}
+use Rattle.rgb_encoders.proofs.plain.plain_decoding.Given as goal
+
+abbrev pub invariant-loop-x : goal.invariant-loop-x
+invariant-loop-x l = l.pixels.items ≡ first_decoded l.coding l.w l.stride l.bytes (l.y * l.w + l.x)
+
+abbrev pub invariant-loop-y : goal.invariant-loop-y
+invariant-loop-y l = l.pixels.items ≡ first_decoded l.coding l.w l.stride l.bytes (l.y * l.w)

@@ -1,0 +1,5 @@
+pub mod Colour
+pub mod PixelBytes
+pub mod Decoded
+pub mod Encoding
+pub mod Laws
