@@ -1,0 +1,5 @@
+pub mod Places
+pub mod Drawings
+pub mod Points
+pub mod Windows
+pub mod Desktops

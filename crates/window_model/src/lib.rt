@@ -1,0 +1,17 @@
+//! The desktop: windows from bottom to top, each with its pixels, and what paint lines do to them.
+#![tactic(auto)]
+
+mod desk;
+mod laws;
+mod rows;
+mod window;
+
+pub use desk::Desk;
+pub use laws::{
+    blank_shows, changed_finds, cropped_shows, drawn_sizes, drawn_whole, effects_keep,
+    filled_shows, opened_finds, placed_shows,
+};
+pub use window::Win;
+
+#[cfg(test)]
+mod tests;

@@ -1,0 +1,103 @@
+// A window and drawing in it.
+ghost use Rattle.std.specs.Prelude.{◌≡◌, ◌<◌, ◌*◌, ◌^◌, length, All, IfOk};
+ghost use Rattle.xp_base.specs.Points.{LiesIn, area};
+ghost use Rattle.window_model.specs.Drawing.{cropped};
+ghost use Rattle.window_model.specs.Desktop.{IsSide, IsPlace};
+
+use crate::rows::{blank_pixels, copy_rows, crop_rows, fill_rows, see_colours};
+use std::alloc::Global;
+use std::marker::Model;
+use std::mem;
+use xp_base::{NoMemory, Pixel, Pixels, Rect, Wid};
+
+/// A window: its number, the place of its top left corner on the desktop, its size in pixels, and its
+/// pixels row by row from the top.
+#[derive(Debug, Drop)]
+pub struct Win {
+    pub wid: Wid,
+    pub x: i32,
+    pub y: i32,
+    pub w: u32,
+    pub h: u32,
+    pub pixels: Pixels,
+}
+
+impl Model for Win {
+    ghost use Rattle.window_model.specs.Desktop.{Window, IsWindow};
+
+    ghost Value = { Window };
+
+    ghost view = { λ s. record { wid = s.wid; x = s.x; y = s.y; w = s.w; h = s.h; pixels = s.pixels } };
+
+    ghost invariant = { λ s. IsWindow (record { wid = s.wid; x = s.x; y = s.y; w = s.w; h = s.h; pixels = s.pixels }) };
+}
+
+impl Win {
+    ghost use Rattle.window_model.specs.Desktop.{IsWindow, fresh_window, filled_window, placed_window};
+
+    /// All pixels are 0.
+    pub(crate) fn new(
+        alloc: Global,
+        wid: Wid,
+        x: i32,
+        y: i32,
+        w: u32,
+        h: u32,
+    ) -> Result<Win, NoMemory>
+        requires wide { IsSide w }
+        requires high { IsSide h }
+        requires across { IsPlace x }
+        requires down { IsPlace y }
+        ensures value { IfOk result (λ window. window ≡ fresh_window wid x y w h) }
+        ensures kept { IfOk result (λ window. IsWindow window) }
+    {
+        let _number = wid.get();
+        let pixels = Pixels::new(blank_pixels(alloc, w, h)?);
+        Ok(Win {
+            wid,
+            x,
+            y,
+            w,
+            h,
+            pixels,
+        })
+    }
+
+    /// What every window keeps, as a fact for proofs; the answer is how many pixels it has.
+    pub fn area(&self) -> u32
+        ensures value { result ≡ self.now.w * self.now.h }
+        ensures kept { IsWindow self.now }
+    {
+        self.w * self.h
+    }
+
+    pub(crate) fn fill(&mut self, alloc: Global, r: Rect, p: Pixel)
+        requires { LiesIn self.old.w self.old.h r }
+        ensures value { self.new ≡ filled_window r p self.old }
+        ensures kept { IsWindow self.new }
+    {
+        let _number = p.get();
+        let mut pixels = mem::replace(&mut self.pixels, Pixels::new(Vec::new(alloc))).into_vec();
+        fill_rows(&mut pixels, self.w, self.h, r, p);
+        self.pixels = Pixels::new(pixels);
+    }
+
+    pub(crate) fn put(&mut self, alloc: Global, r: Rect, numbers: &Pixels)
+        requires inside { LiesIn self.old.w self.old.h r }
+        requires sized { length numbers.now ≡ area r }
+        ensures value { self.new ≡ placed_window r numbers.now self.old }
+        ensures kept { IsWindow self.new }
+    {
+        see_colours(numbers.as_slice());
+        let mut pixels = mem::replace(&mut self.pixels, Pixels::new(Vec::new(alloc))).into_vec();
+        copy_rows(&mut pixels, self.w, self.h, r, numbers.as_slice());
+        self.pixels = Pixels::new(pixels);
+    }
+
+    pub(crate) fn crop(&self, alloc: Global, r: Rect) -> Result<Pixels, NoMemory>
+        requires { LiesIn self.now.w self.now.h r }
+        ensures { IfOk result (λ pixels. pixels ≡ cropped self.now.w r self.now.pixels) }
+    {
+        Ok(Pixels::new(crop_rows(alloc, self.pixels.as_slice(), self.w, self.h, r)?))
+    }
+}
