@@ -1,5 +1,5 @@
 -- Which pixel decoding gives at each point.
-use Rattle.std.proofs.Common.{◌≡◌, ℕ, ◌+◌, ◌*◌, ◌/◌, ◌%◌, ◌<◌, Some, None, [], ◌∷◌, ◌++◌, true, cond, ◌&&◌, ltb, List, length, get_or, map, ap, ◌∙◌, arith}
+use Rattle.std.proofs.Common.{◌≡◌, ℕ, ◌+◌, ◌*◌, ◌/◌, ◌%◌, ◌<◌, Some, None, [], ◌∷◌, ◌++◌, true, cond, ◌&&◌, ltb, List, length, get_or, map, ap, sym, ◌∙◌, arith}
 use Rattle.std.proofs.lemmas.List.FromFn.{get_or-map-range_with_len, length-map-range_with_len, map-range_with_len_more}
 use Rattle.std.proofs.lemmas.Nat.{mul-add-lt, div-mul-add, mod-mul-add}
 use Rattle.std.proofs.lemmas.Bool.Decides.{nat_tests}
@@ -36,7 +36,7 @@ abbrev pub first_decoded : Coding → ℕ → ℕ → List ℕ → ℕ → List 
 first_decoded coding w stride bytes count = map (λ k. decoded_at coding stride bytes (k % w) (k / w)) (range_with_len 0 count)
 
 -- one pixel more
-pub decoded_more : (coding : Coding) (w stride : ℕ) (bytes : List ℕ) (x y : ℕ) → x < w
+decoded_more : (coding : Coding) (w stride : ℕ) (bytes : List ℕ) (x y : ℕ) → x < w
     → first_decoded coding w stride bytes (y * w + (x + 1)) ≡ first_decoded coding w stride bytes (y * w + x) ++ decoded_at coding stride bytes x y ∷ []
 decoded_more coding w stride bytes x y left =
     let f : ℕ → ℕ = λ k. decoded_at coding stride bytes (k % w) (k / w) in
@@ -46,3 +46,11 @@ decoded_more coding w stride bytes x y left =
     ap (λ q. decoded_at coding stride bytes (k % w) q) (div-mul-add y w x left) ∙ ap (λ m. decoded_at coding stride bytes m y) (mod-mul-add y w x left) in
     ap (first_decoded coding w stride bytes) next ∙ map-range_with_len_more f 0 k k (omega arith)
     ∙ ap (λ n. first_decoded coding w stride bytes k ++ n ∷ []) here
+
+-- one pixel more was pushed
+pub decoded_pushed : (coding : Coding) (w stride : ℕ) (bytes : List ℕ) (x y : ℕ) (was now : List ℕ) (number : ℕ) → x < w
+    → was ≡ first_decoded coding w stride bytes (y * w + x) → now ≡ was ++ number ∷ [] → number ≡ decoded_at coding stride bytes x y
+    → now ≡ first_decoded coding w stride bytes (y * w + (x + 1))
+decoded_pushed coding w stride bytes x y was now number left so_far pushed here =
+    pushed ∙ ap (λ items. items ++ number ∷ []) so_far ∙ ap (λ n. first_decoded coding w stride bytes (y * w + x) ++ n ∷ []) here
+    ∙ sym (decoded_more coding w stride bytes x y left)

@@ -1,5 +1,6 @@
 -- Laws of the codings.
 use Rattle.std.specs.Prelude.{ℕ, ◌≡◌, ◌<◌, ◌*◌, ◌^◌, List, length, map, Some}
+use Rattle.std.specs.Option.{option_map}
 use Rattle.xp_base.specs.declared.coding.Coding.{Coding}
 use Rattle.xp_base.specs.Captures.{Captured}
 use Rattle.xp_base.specs.Grid.{number_at}
@@ -41,3 +42,7 @@ pub record Shows (e : Encoding) : Type 0 where
   pub fits : HoldsPixels e.capture.coding e.capture.rect.w e.capture.rect.h (row_stride e.capture) e.bytes
   pub shows :
       decoded e.capture.coding e.capture.rect.w e.capture.rect.h (row_stride e.capture) e.bytes ≡ map (shown e.capture.coding) e.capture.pixels
+  pub points :
+    (x y : ℕ)
+    → number_at e.capture.rect.w e.capture.rect.h (decoded e.capture.coding e.capture.rect.w e.capture.rect.h (row_stride e.capture) e.bytes) x y
+    ≡ option_map (shown e.capture.coding) (number_at e.capture.rect.w e.capture.rect.h e.capture.pixels x y)
