@@ -1,5 +1,5 @@
 -- What the bytes of a capture show.
-use Rattle.std.proofs.Common.{◌≡◌, ℕ, ◌*◌, ◌≤◌, List, length, map, None, true, false, cond, refl, ap, sym, ◌∙◌, subst, arith}
+use Rattle.std.proofs.Common.{◌≡◌, ℕ, ◌*◌, List, length, map, None, true, false, cond, refl, ap, sym, ◌∙◌, subst, arith}
 use Rattle.std.proofs.lemmas.Option.{slice_get-map}
 use Rattle.std.specs.List.{slice_get}
 use Rattle.std.specs.Option.{option_map}
@@ -21,8 +21,8 @@ rows pixels w h size bytes is sized = let scaled = ap (λ n. n * size) sized in 
 number_at-map : (f : ℕ → ℕ) (w h : ℕ) (numbers : List ℕ) (x y : ℕ) → number_at w h (map f numbers) x y ≡ option_map f (number_at w h numbers x y)
 number_at-map f w h numbers x y =
     elim (is_within w h x y) as (λ b. cond b (slice_get (map f numbers) (place_of w x y)) None ≡ option_map f (cond b (slice_get numbers (place_of w x y)) None)) [
-    | true ↦ slice_get-map f numbers (place_of w x y)
-    | false ↦ refl
+      | true ↦ slice_get-map f numbers (place_of w x y)
+      | false ↦ refl
     ]
 
 shows_encoding_of : (c : Captured) → IsCapture c → Shows (encoding_of c)

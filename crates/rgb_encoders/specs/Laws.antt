@@ -43,6 +43,6 @@ pub record Shows (e : Encoding) : Type 0 where
   pub shows :
       decoded e.capture.coding e.capture.rect.w e.capture.rect.h (row_stride e.capture) e.bytes ≡ map (shown e.capture.coding) e.capture.pixels
   pub points :
-    (x y : ℕ)
-    → number_at e.capture.rect.w e.capture.rect.h (decoded e.capture.coding e.capture.rect.w e.capture.rect.h (row_stride e.capture) e.bytes) x y
-    ≡ option_map (shown e.capture.coding) (number_at e.capture.rect.w e.capture.rect.h e.capture.pixels x y)
+      (x y : ℕ)
+      → number_at e.capture.rect.w e.capture.rect.h (decoded e.capture.coding e.capture.rect.w e.capture.rect.h (row_stride e.capture) e.bytes) x y
+      ≡ option_map (shown e.capture.coding) (number_at e.capture.rect.w e.capture.rect.h e.capture.pixels x y)

@@ -1,6 +1,7 @@
 // A capture with its bytes.
 ghost use Rattle.std.specs.Prelude.{◌≡◌, IfOk};
 ghost use Rattle.std.specs.Arc.{arc_value};
+ghost use Rattle.rgb_encoders.specs.Encoding.{encoding_of};
 
 use crate::plain::plain_encoding;
 use std::alloc::Global;
@@ -26,13 +27,12 @@ impl Model for Encoded {
     ghost invariant = { λ e. IsEncoding (record { capture = arc_value e.capture; bytes = e.bytes.items }) };
 }
 
-ghost use Rattle.rgb_encoders.specs.Encoding.{encoding_of};
-
 /// Codes a capture as it asks to be coded.
-pub fn encode(alloc: Global, c: Arc<Capture>) -> Result<Encoded, NoMemory>
-    ensures { IfOk result (λ e. e ≡ encoding_of (arc_value c)) }
+pub fn encode(alloc: Global, capture: Arc<Capture>) -> Result<Encoded, NoMemory>
+    ensures { IfOk result (λ encoded. encoded ≡ encoding_of (arc_value capture)) }
 {
-    let _pixels = c.rect.area();
-    let bytes = plain_encoding(alloc, c.coding, c.pixels.as_slice())?;
-    Ok(Encoded { capture: c, bytes })
+    // A rectangle, and so a capture, has at most 4,096 times 4,096 pixels.
+    let _count = capture.rect.area();
+    let bytes = plain_encoding(alloc, capture.coding, capture.pixels.as_slice())?;
+    Ok(Encoded { capture, bytes })
 }

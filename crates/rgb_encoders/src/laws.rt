@@ -30,9 +30,9 @@ pub fn shown_colour()
 {}
 
 /// The bytes of a capture are decoded without a fault, and show each of its pixels.
-pub fn encoded_shows(e: &Encoded)
-    ensures { Shows e.now }
+pub fn encoded_shows(encoded: &Encoded)
+    ensures { Shows encoded.now }
 {
-    let capture: &Capture = &e.capture;
+    let capture: &Capture = &encoded.capture;
     let _pixels = &capture.pixels;
 }

@@ -1,8 +1,7 @@
 // Plain bodies of both codings, pixel by pixel. Faster ones keep their clauses and are compared with them.
 ghost use Rattle.std.specs.Prelude.{◌≡◌, ◌≤◌, ◌<◌, ◌+◌, ◌*◌, length, IfOk};
-ghost use Rattle.rgb_encoders.specs.Colour as numbers;
-ghost use Rattle.rgb_encoders.specs.PixelBytes.{coded_bytes};
-ghost use Rattle.rgb_encoders.specs.PixelBytes as places;
+ghost use Rattle.rgb_encoders.specs.Colour.{lossy_number, expansion, colour};
+ghost use Rattle.rgb_encoders.specs.PixelBytes.{pixel_size, coded_bytes, colour_at};
 ghost use Rattle.rgb_encoders.specs.Decoded.{decoded, HoldsPixels};
 
 use crate::sizes::pixel_size;
@@ -49,7 +48,7 @@ fn write_lossy(pixels: &[Pixel], bytes: &mut [u8])
 }
 
 fn lossy_number(pixel: Pixel) -> u32
-    ensures value { result ≡ numbers.lossy_number pixel }
+    ensures value { result ≡ lossy_number pixel }
     ensures small { result < 65536 }
 {
     let number = pixel.get();
@@ -86,18 +85,18 @@ pub fn plain_decoding(
 
 #[inline(always)]
 fn read_pixel(coding: Coding, bytes: &[u8], place: usize) -> Pixel
-    requires { place + places.pixel_size coding ≤ length bytes.now }
-    ensures { result ≡ places.colour_at coding bytes.now place }
+    requires { place + pixel_size coding ≤ length bytes.now }
+    ensures { result ≡ colour_at coding bytes.now place }
 {
     match coding {
         Coding::Exact => colour(bytes[place + 2], bytes[place + 1], bytes[place]),
-        Coding::Lossy => { expansion(u32::from(bytes[place + 1]) * 256 + u32::from(bytes[place])) }
+        Coding::Lossy => expansion(u32::from(bytes[place + 1]) * 256 + u32::from(bytes[place])),
     }
 }
 
 #[inline(always)]
 fn colour(red: u8, green: u8, blue: u8) -> Pixel
-    ensures { result ≡ numbers.colour red green blue }
+    ensures { result ≡ colour red green blue }
 {
     let number = u32::from(red) * 65536 + u32::from(green) * 256 + u32::from(blue);
     match Pixel::new(number) {
@@ -109,7 +108,7 @@ fn colour(red: u8, green: u8, blue: u8) -> Pixel
 #[inline(always)]
 fn expansion(number: u32) -> Pixel
     requires { number < 65536 }
-    ensures { result ≡ numbers.expansion number }
+    ensures { result ≡ expansion number }
 {
     let red = number / 2048;
     let green = number / 32 % 64;

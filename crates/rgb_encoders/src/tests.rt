@@ -9,7 +9,13 @@ const HIGH: u32 = 3;
 
 const GAP: u32 = 3;
 
-fn capture_of(alloc: Global, coding: Coding, w: u32, h: u32, pixels: Vec<Pixel>) -> Result<Arc<Capture>, Fail> {
+fn capture_of(
+    alloc: Global,
+    coding: Coding,
+    w: u32,
+    h: u32,
+    pixels: Vec<Pixel>,
+) -> Result<Arc<Capture>, Fail> {
     let rect = Rect::new(0, 0, w, h).ok_or("the sides are wrong")?;
     if pixels.len() != rect.area() as usize {
         return Err(Fail::from("as many pixels as the rectangle has"));
@@ -115,7 +121,11 @@ fn compare(
     let decoded = decode(alloc, coding, w, HIGH, stride, bytes.as_slice())?;
     assert_eq!(rt; decoded.as_slice().len(), pixels.len(), "width {w}");
     for (found, pixel) in decoded.as_slice().iter().zip(pixels) {
-        assert_eq!(rt; found.get(), shown(coding, *pixel), "width {w}, {coding:?}, {pixel:?}");
+        assert_eq!(rt;
+            found.get(),
+            shown(coding, *pixel),
+            "width {w}, {coding:?}, {pixel:?}"
+        );
     }
     Ok(())
 }
@@ -133,7 +143,11 @@ fn codes_widths_1_to_40(rt: HostRuntime) -> Result<(), Fail> {
             compare(&rt, alloc, coding, w, 0, pixels.as_slice())?;
             compare(&rt, alloc, coding, w, GAP, pixels.as_slice())?;
             let made = encode(alloc, capture_of(alloc, coding, w, HIGH, pixels)?)?;
-            assert_eq!(rt; made.bytes.as_slice(), bytes.as_slice(), "width {w}, {coding:?}");
+            assert_eq!(rt;
+                made.bytes.as_slice(),
+                bytes.as_slice(),
+                "width {w}, {coding:?}"
+            );
         }
     }
     Ok(())
@@ -143,8 +157,14 @@ fn codes_widths_1_to_40(rt: HostRuntime) -> Result<(), Fail> {
 fn prints_faults(rt: HostRuntime) -> Result<(), Fail> {
     let alloc = rt.alloc();
     let faults = [
-        (DataFault::Stride(1), "rows of 1 bytes have no room for their pixels"),
-        (DataFault::Length(3), "3 bytes are not the stride times the height"),
+        (
+            DataFault::Stride(1),
+            "rows of 1 bytes have no room for their pixels",
+        ),
+        (
+            DataFault::Length(3),
+            "3 bytes are not the stride times the height",
+        ),
         (DataFault::NoMemory, "out of memory"),
     ];
     for (fault, text) in faults {

@@ -7,4 +7,4 @@ use Rattle.rgb_encoders.proofs.laws.encoded_shows.Goals as goal
 pub returns : goal.returns
 returns c =
     let whole = subst IsCapture (c.capture.view_is ∙ c.deref-capture.ensures) c.capture.invariant in
-    subst Shows c.e.view_is (shows_encoding _ c.e.invariant whole)
+    subst Shows c.encoded.view_is (shows_encoding _ c.encoded.invariant whole)
