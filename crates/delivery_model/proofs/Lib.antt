@@ -1,0 +1,9 @@
+pub mod MarkSteps
+pub mod Grids
+pub mod PointSteps
+pub mod Lists
+pub mod WindowSteps
+pub mod JobSteps
+pub mod Steadies
+pub mod OwedSteps
+pub mod Runs

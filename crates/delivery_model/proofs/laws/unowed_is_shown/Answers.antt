@@ -1,0 +1,9 @@
+use Rattle.std.proofs.Common.{Option, None, subst}
+use Rattle.delivery_model.specs.Window.{Window}
+use Rattle.delivery_model.specs.Laws.{KeptWhereThere}
+use Rattle.delivery_model.proofs.Runs.{kept_run}
+use Rattle.delivery_model.proofs.Steadies.{shown_unless_owed}
+use Rattle.delivery_model.proofs.laws.unowed_is_shown.Goals as goal
+
+pub returns : goal.returns
+returns c rules lawful events are w is = shown_unless_owed rules w (subst (λ (o : Option Window). KeptWhereThere rules o) is (kept_run rules lawful None events are tt))

@@ -1,0 +1,12 @@
+pub mod Grids
+pub mod Window
+pub mod Client
+pub mod Events
+pub mod Owed
+pub mod Marks
+pub mod Point
+pub mod Kept
+pub mod Changes
+pub mod Numbers
+pub mod Laws
+pub mod Invariant
