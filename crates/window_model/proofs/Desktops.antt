@@ -1,5 +1,5 @@
 -- Windows found, opened and changed on a desktop.
-use Rattle.std.proofs.Common.{◌≡◌, ◌≢◌, inl, inr, ℕ, ◌<◌, Bool, true, false, Option, Some, None, List, [], ◌∷◌, ◌++◌, length, get_or, set, zero, suc, cond, eqb, ltb, refl, sym, ap, ◌∙◌, arith, subst}
+use Rattle.std.proofs.Common.{◌≡◌, ◌≢◌, inl, inr, ℕ, ◌<◌, Bool, true, false, Option, Some, None, List, [], ◌∷◌, ◌++◌, length, get_or, set, map, zero, suc, cond, eqb, ltb, refl, sym, ap, ◌∙◌, arith, subst}
 use Rattle.std.specs.Prelude.{position, IsSomeAnd}
 use Rattle.std.specs.Option.{option_map}
 use Rattle.std.specs.List.{slice_get, position_or_len}
@@ -7,12 +7,12 @@ use Rattle.std.proofs.lemmas.Bool.{cases_eq, cases_order, cond-true, cond-false,
 use Rattle.std.proofs.lemmas.Option.{cond_some, none-some, slice_get_past, slice_get-get_or}
 use Rattle.std.proofs.lemmas.List.Folds.{find_at}
 use Rattle.std.proofs.lemmas.Bool.Decides.{nat_tests}
-use Rattle.std.proofs.lemmas.List.{same_lists, length-map, length-set, get_or-map, get_or-set_same, get_or-set_other, get_or_default}
+use Rattle.std.proofs.lemmas.List.{map_push, same_lists, length-map, length-set, get_or-map, get_or-set_same, get_or-set_other, get_or_default}
 use Rattle.std.proofs.lemmas.List.Elements.{All-push, All-map, All-set}
 use Rattle.std.proofs.lemmas.List.Quantifiers.{all_pairs_push, position-Some}
 use Rattle.xp_base.specs.Points.{Rectangle, LiesIn}
 use Rattle.window_model.specs.Desktop.{Window, IsWindow, IsDesktop, IsInWindow, find_window, has_window, changed_window, fresh_window}
-use Rattle.window_model.specs.Laws.{OpenedFinds, ChangedFinds, EffectsKeep}
+use Rattle.window_model.specs.Laws.{OpenedFinds, ChangedFinds, NumbersKept, EffectsKeep}
 use Rattle.window_model.proofs.Windows.{IsWindow-filled, IsWindow-placed}
 
 -- what a change makes of a window
@@ -100,6 +100,19 @@ IsDesktop-changed desk wid change keeps is_kept is =
           let below : j < length desk = omega (arith, length-changed desk wid change) in
           λ same. is.distinct i j d before below (sym (number i d (omega arith)) ∙ same ∙ number j d below);
     }
+
+numbers-changed : (desk : List Window) (wid : ℕ) (change : Window → Window) → ((window : Window) → (change window).wid ≡ window.wid)
+    → map (λ (window : Window). window.wid) (changed_window desk wid change) ≡ map (λ (window : Window). window.wid) desk
+numbers-changed [] wid change keeps = refl
+numbers-changed (window ∷ desk) wid change keeps =
+    ap (λ n. n ∷ map (λ (z : Window). z.wid) (changed_window desk wid change)) (changed_at-wid wid change keeps window)
+    ∙ ap (λ ns. window.wid ∷ ns) (numbers-changed desk wid change keeps)
+
+pub numbers_kept_lem : NumbersKept
+numbers_kept_lem = record {
+  opening = λ desk wid x y w h. map_push (λ (window : Window). window.wid) desk (fresh_window wid x y w h);
+  changing = numbers-changed;
+}
 
 pub effects_keep_lem : EffectsKeep
 effects_keep_lem = record {

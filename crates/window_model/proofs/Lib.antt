@@ -3,3 +3,4 @@ pub mod Drawings
 pub mod Points
 pub mod Windows
 pub mod Desktops
+mod Examples

@@ -1,5 +1,5 @@
 -- What the definitions of drawing and of the desktop come to, point by point and window by window.
-use Rattle.std.specs.Prelude.{ℕ, ◌+◌, ◌-◌, ◌*◌, ◌^◌, ◌<◌, ◌≡◌, ◌==◌, ℤ, true, false, Some, List, length, All, if◌then◌else◌}
+use Rattle.std.specs.Prelude.{ℕ, ◌+◌, ◌-◌, ◌*◌, ◌^◌, ◌<◌, ◌≡◌, ◌==◌, ℤ, true, false, Some, List, [], ◌∷◌, ◌++◌, length, map, All, if◌then◌else◌}
 use Rattle.std.specs.Option.{option_map}
 use Rattle.xp_base.specs.Points.{Rectangle, LiesIn, is_in, is_within, whole, area}
 use Rattle.xp_base.specs.Grid.{number_at}
@@ -49,6 +49,13 @@ OpenedFinds = (desk : List Window) (wid : ℕ) (x y : ℤ) (w h k : ℕ) → has
 abbrev pub ChangedFinds : Type 0
 ChangedFinds = (desk : List Window) (wid : ℕ) (change : Window → Window) (k : ℕ) → ((window : Window) → (change window).wid ≡ window.wid)
     → find_window (changed_window desk wid change) k ≡ (if k == wid then option_map change (find_window desk k) else find_window desk k)
+
+-- the windows' numbers from bottom to top, after each effect
+pub record NumbersKept : Type 0 where
+  pub opening : (desk : List Window) (wid : ℕ) (x y : ℤ) (w h : ℕ)
+      → map (λ window. window.wid) (opened desk wid x y w h) ≡ map (λ window. window.wid) desk ++ wid ∷ []
+  pub changing : (desk : List Window) (wid : ℕ) (change : Window → Window) → ((window : Window) → (change window).wid ≡ window.wid)
+      → map (λ window. window.wid) (changed_window desk wid change) ≡ map (λ window. window.wid) desk
 
 -- the effects keep a desktop
 pub record EffectsKeep : Type 0 where

@@ -1,5 +1,5 @@
 // What the definitions come to, as facts that a proof gets by a call: each call does nothing.
-ghost use Rattle.window_model.specs.Laws.{BlankShows, FilledShows, PlacedShows, CroppedShows, DrawnSizes, DrawnWhole, OpenedFinds, ChangedFinds, EffectsKeep};
+ghost use Rattle.window_model.specs.Laws.{BlankShows, FilledShows, PlacedShows, CroppedShows, DrawnSizes, DrawnWhole, OpenedFinds, ChangedFinds, NumbersKept, EffectsKeep};
 
 /// Each point of a new window shows 0.
 pub fn blank_shows()
@@ -39,6 +39,11 @@ pub fn opened_finds()
 /// Where a window was changed and kept its number, it is found changed, and the others as before.
 pub fn changed_finds()
     ensures { ChangedFinds }
+{}
+
+/// The windows' numbers from bottom to top, after each effect.
+pub fn numbers_kept()
+    ensures { NumbersKept }
 {}
 
 /// The effects keep a desktop.

@@ -9,7 +9,7 @@ mod window;
 pub use desk::Desk;
 pub use laws::{
     blank_shows, changed_finds, cropped_shows, drawn_sizes, drawn_whole, effects_keep,
-    filled_shows, opened_finds, placed_shows,
+    filled_shows, numbers_kept, opened_finds, placed_shows,
 };
 pub use window::Win;
 
