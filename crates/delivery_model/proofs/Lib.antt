@@ -7,3 +7,4 @@ pub mod JobSteps
 pub mod Steadies
 pub mod OwedSteps
 pub mod Runs
+pub mod Examples

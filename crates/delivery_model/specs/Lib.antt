@@ -2,6 +2,7 @@ pub mod Grids
 pub mod Window
 pub mod Client
 pub mod Events
+pub mod Refusals
 pub mod Owed
 pub mod Marks
 pub mod Point
