@@ -1,5 +1,5 @@
 // The desktop.
-ghost use Rattle.std.specs.Prelude.{◌≡◌, ◌==◌, ◌<◌, ◌^◌, ◌↔◌, [], Some, false, length, IsNone, IsSome, IfOk, OnOk, OnErr, position};
+ghost use Rattle.std.specs.Prelude.{◌≡◌, ◌==◌, [], Some, false, length, IfOk, OnOk, OnErr, position};
 ghost use Rattle.std.specs.Option.{option_copied};
 ghost use Rattle.xp_base.specs.Points.{area};
 

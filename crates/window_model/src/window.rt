@@ -1,5 +1,5 @@
 // A window and drawing in it.
-ghost use Rattle.std.specs.Prelude.{◌≡◌, ◌<◌, ◌*◌, ◌^◌, length, All, IfOk};
+ghost use Rattle.std.specs.Prelude.{◌≡◌, ◌*◌, length, IfOk};
 ghost use Rattle.xp_base.specs.Points.{LiesIn, area};
 ghost use Rattle.window_model.specs.Drawing.{cropped};
 ghost use Rattle.window_model.specs.Desktop.{IsSide, IsPlace};
@@ -51,6 +51,7 @@ impl Win {
         ensures value { IfOk result (λ window. window ≡ fresh_window wid x y w h) }
         ensures kept { IfOk result (λ window. IsWindow window) }
     {
+        // For the proof: the number is one of a window.
         let _number = wid.get();
         let pixels = Pixels::new(blank_pixels(alloc, w, h)?);
         Ok(Win {
@@ -76,7 +77,9 @@ impl Win {
         ensures value { self.new ≡ filled_window r p self.old }
         ensures kept { IsWindow self.new }
     {
+        // For the proof: the number is one of a pixel.
         let _number = p.get();
+        // `Pixels` has no mutable view, so that its list is taken out and put back: no copy is made.
         let mut pixels = mem::replace(&mut self.pixels, Pixels::new(Vec::new(alloc))).into_vec();
         fill_rows(&mut pixels, self.w, self.h, r, p);
         self.pixels = Pixels::new(pixels);
@@ -89,14 +92,17 @@ impl Win {
         ensures kept { IsWindow self.new }
     {
         see_colours(numbers.as_slice());
+        // Taken out and put back, as in `fill`.
         let mut pixels = mem::replace(&mut self.pixels, Pixels::new(Vec::new(alloc))).into_vec();
         copy_rows(&mut pixels, self.w, self.h, r, numbers.as_slice());
         self.pixels = Pixels::new(pixels);
     }
 
-    pub(crate) fn crop(&self, alloc: Global, r: Rect) -> Result<Pixels, NoMemory>
+    /// The pixels in the rectangle, row by row.
+    pub fn crop(&self, alloc: Global, r: Rect) -> Result<Pixels, NoMemory>
         requires { LiesIn self.now.w self.now.h r }
-        ensures { IfOk result (λ pixels. pixels ≡ cropped self.now.w r self.now.pixels) }
+        ensures value { IfOk result (λ pixels. pixels ≡ cropped self.now.w r self.now.pixels) }
+        ensures sized { IfOk result (λ pixels. length pixels ≡ area r) }
     {
         Ok(Pixels::new(crop_rows(alloc, self.pixels.as_slice(), self.w, self.h, r)?))
     }
