@@ -1,0 +1,6 @@
+pub mod Desks
+pub mod Digits
+pub mod Lines
+pub mod Steps
+pub mod Scripts
+mod Examples
