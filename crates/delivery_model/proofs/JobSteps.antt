@@ -26,7 +26,7 @@ in_window : (w h : ℕ) (r : Rectangle) (x y : ℕ) → LiesIn w h r → is_in r
 in_window w h r x y lies inside = grind (arith, nat_tests, lies.across, lies.down)
 
 job_fits : (w : Window) (region : Points) (k : ℕ) (p : Planned) → LiesIn w.desk.wide w.desk.high p.rect
-    → (p.coding ≡ C.Lossy → (x y : ℕ) → is_in p.rect x y ≡ true → has region x y ≡ true) → JobFits w.desk.wide w.desk.high (job_of w region k p)
+    → (p.coding ≡ C.Lossy → (x y : ℕ) → is_in p.rect x y ≡ true → has region x y ≡ true) → JobFits w.desk.wide w.desk.high (job_of w.desk region k p)
 job_fits w region k p lies lossy = record {
   pixels = record { sized = length-cut w.desk p.rect };
   within = lies;
@@ -37,9 +37,9 @@ job_fits w region k p lies lossy = record {
 }
 
 jobs_fit : (w : Window) (region : Points) (k : ℕ) (plan : List Planned) → All (λ (p : Planned). LiesIn w.desk.wide w.desk.high p.rect) plan
-    → All (λ (p : Planned). p.coding ≡ C.Lossy → (x y : ℕ) → is_in p.rect x y ≡ true → has region x y ≡ true) plan → All (JobFits w.desk.wide w.desk.high) (jobs_of w region k plan)
+    → All (λ (p : Planned). p.coding ≡ C.Lossy → (x y : ℕ) → is_in p.rect x y ≡ true → has region x y ≡ true) plan → All (JobFits w.desk.wide w.desk.high) (jobs_of w.desk region k plan)
 jobs_fit w region k [] lies lossy = All-nil (JobFits w.desk.wide w.desk.high)
-jobs_fit w region k (p ∷ plan) lies lossy = All-cons (JobFits w.desk.wide w.desk.high) (job_of w region k p) (jobs_of w region (k + 1) plan)
+jobs_fit w region k (p ∷ plan) lies lossy = All-cons (JobFits w.desk.wide w.desk.high) (job_of w.desk region k p) (jobs_of w.desk region (k + 1) plan)
     (job_fits w region k p (All-head (λ (p : Planned). LiesIn w.desk.wide w.desk.high p.rect) p plan lies)
     (All-head (λ (p : Planned). p.coding ≡ C.Lossy → (x y : ℕ) → is_in p.rect x y ≡ true → has region x y ≡ true) p plan lossy))
     (jobs_fit w region (k + 1) plan (All-tail (λ (p : Planned). LiesIn w.desk.wide w.desk.high p.rect) p plan lies)
@@ -47,7 +47,7 @@ jobs_fit w region k (p ∷ plan) lies lossy = All-cons (JobFits w.desk.wide w.de
 
 -- at a point of the window the new jobs relieve what is in a rectangle of the plan and in the region
 pub jobs_of-relieve : (w : Window) (region : Points) (k : ℕ) (plan : List Planned) (x y : ℕ) → is_within w.desk.wide w.desk.high x y ≡ true
-    → jobs_relieve (jobs_of w region k plan) x y ≡ (list_any (λ (p : Planned). is_in p.rect x y) plan && has region x y)
+    → jobs_relieve (jobs_of w.desk region k plan) x y ≡ (list_any (λ (p : Planned). is_in p.rect x y) plan && has region x y)
 jobs_of-relieve w region k [] x y within = refl
 jobs_of-relieve w region k (p ∷ plan) x y within =
     rw (has-points_within w.desk.wide w.desk.high (λ x y. is_in p.rect x y && has region x y) x y within, jobs_of-relieve w region (k + 1) plan x y within)
@@ -66,42 +66,42 @@ region_pending w x y pending = which (is_empty w.pending) refl
 
 -- what was pending is relieved by the jobs of a capture
 pub pending_relieved : (w : Window) (k : ℕ) (plan : List Planned) → IsPlan w plan → (x y : ℕ) → is_within w.desk.wide w.desk.high x y ≡ true
-    → has w.pending x y ≡ true → jobs_relieve (jobs_of w (region_taken w) k plan) x y ≡ true
+    → has w.pending x y ≡ true → jobs_relieve (jobs_of w.desk (region_taken w) k plan) x y ≡ true
 pending_relieved w k plan planned x y within pending =
     let taken : has (region_taken w) x y ≡ true = ap (λ (r : Points). has r x y) (region_pending w x y pending) ∙ pending in
     jobs_of-relieve w (region_taken w) k plan x y within ∙ and_from _ _ (planned.covers x y taken) taken
 
 -- a new job has the window's numbers
 good_job : (w : Window) (region : Points) (k : ℕ) (p : Planned) (x y : ℕ) → is_within w.desk.wide w.desk.high x y ≡ true
-    → IsGood (job_mark (number w.desk x y) (job_at (job_of w region k p) x y))
+    → IsGood (job_mark (number w.desk x y) (job_at (job_of w.desk region k p) x y))
 good_job w region k p x y within = record { leaves = λ u is. leaves (cases_Bool (is_in p.rect x y)) u is; relieves = λ is u. relieves is u }
   where
-    there : is_in p.rect x y ≡ true → (u : Bool) → over (job_mark (number w.desk x y) (job_at (job_of w region k p) x y)).leaves u ≡ true
+    there : is_in p.rect x y ≡ true → (u : Bool) → over (job_mark (number w.desk x y) (job_at (job_of w.desk region k p) x y)).leaves u ≡ true
     there inside u = rw inside (eq-eqb (number_in p.rect (cut w.desk p.rect) x y) (number w.desk x y) (number_in-cut w.desk p.rect x y inside))
 
-    leaves : (is_in p.rect x y ≡ true) ⊎ (is_in p.rect x y ≡ false) → (u : Bool) → u ≡ true → over (job_mark (number w.desk x y) (job_at (job_of w region k p) x y)).leaves u ≡ true
+    leaves : (is_in p.rect x y ≡ true) ⊎ (is_in p.rect x y ≡ false) → (u : Bool) → u ≡ true → over (job_mark (number w.desk x y) (job_at (job_of w.desk region k p) x y)).leaves u ≡ true
     leaves (inl inside) u is = there inside u
     leaves (inr outside) u is = rw outside is
 
-    relieves : has (points w.desk.wide w.desk.high (λ x y. is_in p.rect x y && has region x y)) x y ≡ true → (u : Bool) → over (job_mark (number w.desk x y) (job_at (job_of w region k p) x y)).leaves u ≡ true
+    relieves : has (points w.desk.wide w.desk.high (λ x y. is_in p.rect x y && has region x y)) x y ≡ true → (u : Bool) → over (job_mark (number w.desk x y) (job_at (job_of w.desk region k p) x y)).leaves u ≡ true
     relieves is u = there (and_parts _ _ (rw (has-points_within w.desk.wide w.desk.high (λ x y. is_in p.rect x y && has region x y) x y within) at is)).0 u
 
 good_jobs : (w : Window) (region : Points) (k : ℕ) (plan : List Planned) (x y : ℕ) → is_within w.desk.wide w.desk.high x y ≡ true
-    → AllGood (map (job_mark (number w.desk x y)) (jobs_at (jobs_of w region k plan) x y))
+    → AllGood (map (job_mark (number w.desk x y)) (jobs_at (jobs_of w.desk region k plan) x y))
 good_jobs w region k [] x y within = tt
 good_jobs w region k (p ∷ plan) x y within = (good_job w region k p x y within, good_jobs w region (k + 1) plan x y within)
 
 pub keeps_captured : (rules : Rules) (plan : List Planned) (first : ℕ) (w : Window) → IsPlan w plan → IsKept rules w → IsKept rules (captured plan first w)
 keeps_captured rules plan first w planned kept = record {
   sized = kept.sized;
-  jobs = All-append (JobFits w.desk.wide w.desk.high) w.jobs (jobs_of w (region_taken w) first plan) kept.jobs (jobs_fit w (region_taken w) first plan planned.within planned.lossy);
+  jobs = All-append (JobFits w.desk.wide w.desk.high) w.jobs (jobs_of w.desk (region_taken w) first plan) kept.jobs (jobs_fit w (region_taken w) first plan planned.within planned.lossy);
   packets = kept.packets;
   pending = record { wide = refl; high = refl };
   lossy = kept.lossy;
   points = λ x y within. rw (has-points_within w.desk.wide w.desk.high (λ x y. false) x y within, jobs_at-append)
-      (kept_captured rules (number w.desk x y) (shown_at w.client x y) (packets_at rules (size_of w.client) w.packets x y) (jobs_at w.jobs x y) (jobs_at (jobs_of w (region_taken w) first plan) x y) (has w.pending x y) (has w.lossy x y)
+      (kept_captured rules (number w.desk x y) (shown_at w.client x y) (packets_at rules (size_of w.client) w.packets x y) (jobs_at w.jobs x y) (jobs_at (jobs_of w.desk (region_taken w) first plan) x y) (has w.pending x y) (has w.lossy x y)
       (good_jobs w (region_taken w) first plan x y within)
-      (λ pending. any-jobs (number w.desk x y) (jobs_of w (region_taken w) first plan) x y ∙ pending_relieved w first plan planned x y within pending)
+      (λ pending. any-jobs (number w.desk x y) (jobs_of w.desk (region_taken w) first plan) x y ∙ pending_relieved w first plan planned x y within pending)
       (kept.points x y within));
 }
 

@@ -7,4 +7,5 @@ pub mod JobSteps
 pub mod Steadies
 pub mod OwedSteps
 pub mod Runs
+pub mod Loops
 pub mod Examples

@@ -58,7 +58,7 @@ has-append [] new k c job = inr job
 has-append (j ∷ jobs) new k c (inl here) = inl (inl here)
 has-append (j ∷ jobs) new k c (inr later) = elim (has-append jobs new k c later) [ inl old ↦ inl (inr old) | inr fresh ↦ inr fresh ]
 
-new_numbers : (w : Window) (region : Points) (first : ℕ) (plan : List Planned) (k : ℕ) (c : Captured) → HasJob (jobs_of w region first plan) k c → first ≤ k
+new_numbers : (w : Window) (region : Points) (first : ℕ) (plan : List Planned) (k : ℕ) (c : Captured) → HasJob (jobs_of w.desk region first plan) k c → first ≤ k
 new_numbers w region first [] k c job = absurd job
 new_numbers w region first (p ∷ plan) k c (inl here) = omega (arith, here.0)
 new_numbers w region first (p ∷ plan) k c (inr later) = omega (arith, new_numbers w region (first + 1) plan k c later)
@@ -92,7 +92,7 @@ module _ (rules : Rules) (next k : ℕ) (c : Captured) (old : k < next) where
   pub in_hand_changed : (e : Event) (w : Window) → NumbersFrom next e → IsInHand (changed rules e w) k c → IsInHand (Some w) k c
   in_hand_changed (Start desk now) w from job = job
   in_hand_changed (Paint r numbers now) w from job = job
-  in_hand_changed (Capture plan first) w from job = elim (has-append w.jobs (jobs_of w (region_taken w) first plan) k c job) [
+  in_hand_changed (Capture plan first) w from job = elim (has-append w.jobs (jobs_of w.desk (region_taken w) first plan) k c job) [
     | inl there ↦ there
     | inr fresh ↦ absurd (omega (arith, new_numbers w (region_taken w) first plan k c fresh))
   ]

@@ -61,17 +61,17 @@ abbrev pub region_taken : Window → Points
 region_taken w = if is_empty w.pending then w.lossy else w.pending
 
 -- a job has the window's numbers of now, and relieves its rectangle's part of the region
-abbrev pub job_of : Window → Points → ℕ → Planned → Job
-job_of w region k p = record {
+abbrev pub job_of : Grid → Points → ℕ → Planned → Job
+job_of desk region k p = record {
   number = k;
-  capture = record { rect = p.rect; coding = p.coding; pixels = cut w.desk p.rect };
-  relief = points_of w (λ x y. is_in p.rect x y && has region x y);
+  capture = record { rect = p.rect; coding = p.coding; pixels = cut desk p.rect };
+  relief = points desk.wide desk.high (λ x y. is_in p.rect x y && has region x y);
   encoded = false;
 }
 
-abbrev pub jobs_of : Window → Points → ℕ → List Planned → List Job
-jobs_of w region k [] = []
-jobs_of w region k (p ∷ plan) = job_of w region k p ∷ jobs_of w region (k + 1) plan
+abbrev pub jobs_of : Grid → Points → ℕ → List Planned → List Job
+jobs_of desk region k [] = []
+jobs_of desk region k (p ∷ plan) = job_of desk region k p ∷ jobs_of desk region (k + 1) plan
 
 -- the load: jobs in hand, and draws that were queued and are not acknowledged
 abbrev pub load : Window → ℕ
@@ -80,7 +80,7 @@ load w = length w.jobs + length w.unacknowledged
 -- a capture, with its first job's number: nothing is pending then; the lossy points stay; from a load of 32 the delay doubles, up to 500
 abbrev pub captured : List Planned → ℕ → Window → Window
 captured plan first w = record w {
-  jobs = w.jobs ++ jobs_of w (region_taken w) first plan;
+  jobs = w.jobs ++ jobs_of w.desk (region_taken w) first plan;
   pending = points_of w (λ x y. false);
   delay = if nat_le 32 (load w) then min 500 (2 * w.delay) else w.delay;
 }

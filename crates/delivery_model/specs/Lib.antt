@@ -10,4 +10,5 @@ pub mod Kept
 pub mod Changes
 pub mod Numbers
 pub mod Laws
+pub mod Plain
 pub mod Invariant

@@ -2,8 +2,17 @@
 //! the client is owed, and the laws that make "shown unless owed" stand after every list of events.
 #![tactic(auto)]
 
+mod at_point;
 mod laws;
+mod pixel_grid;
+mod plain_parts;
+mod point_set;
+mod selections;
 
+pub use at_point::{each_point, AtPoint};
+pub use pixel_grid::PixelGrid;
+pub use plain_parts::{PlainDraw, PlainJob, PlainPacket, PlainPlanned, PlainSent};
+pub use point_set::PointSet;
 pub use laws::{
     cancelled_numbers_never_come_back, closing_leaves_no_job, every_event_changes_owed_as_stated,
     every_event_keeps_the_form, every_run_keeps_the_form, form_gives_invariant,

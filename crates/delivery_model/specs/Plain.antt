@@ -1,0 +1,28 @@
+-- A window that is played plainly, seen as the model's window.
+use Rattle.std.specs.Prelude.{ℕ, ◌*◌, ◌/◌, Bool, ◌&&◌}
+use Rattle.xp_base.specs.Points.{is_within}
+use Rattle.delivery_model.specs.Window.{Packet, NewWindow, WindowResized, Draws, Sent, Rules}
+use Rattle.delivery_model.specs.Events.{Planned}
+use Rattle.delivery_model.specs.declared.plain_parts.PlainPacket.{PlainPacket}
+use Rattle.delivery_model.specs.declared.plain_parts.PlainPacket.TheVariants as P
+use Rattle.delivery_model.specs.declared.plain_parts.PlainSent.{PlainSent}
+use Rattle.delivery_model.specs.declared.plain_parts.PlainPlanned.{PlainPlanned}
+
+abbrev pub packet_seen : PlainPacket → Packet
+packet_seen (P.NewWindow wide high) = NewWindow wide high
+packet_seen (P.WindowResized wide high) = WindowResized wide high
+packet_seen (P.Draws d) = Draws d
+
+abbrev pub sent_seen : PlainSent → Sent
+sent_seen s = record { sequence = s.sequence; rect = s.rect }
+
+abbrev pub plan_seen : PlainPlanned → Planned
+plan_seen p = record { rect = p.rect; coding = p.coding }
+
+-- a lossy draw of a plain window shows the even number below
+abbrev pub even_below : ℕ → ℕ
+even_below n = n / 2 * 2
+
+-- whether a resize keeps the overlap
+abbrev pub plain_rules : Bool → Rules
+plain_rules keeps = record { lossy_shows = even_below; survives = λ w0 h0 w h x y. keeps && (is_within w0 h0 x y && is_within w h x y) }
