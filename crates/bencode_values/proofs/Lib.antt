@@ -1,0 +1,13 @@
+pub mod Completing
+pub mod Contexts
+pub mod Digits
+pub mod Feeding
+pub mod Forward
+pub mod Going
+pub mod Judged
+pub mod Looking
+pub mod Parts
+pub mod Reasons
+pub mod Runs
+pub mod Top
+pub mod Values
