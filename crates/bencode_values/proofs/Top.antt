@@ -69,3 +69,7 @@ no_prefix v w rest first second e =
     let count : length (spelled v) ≡ length (spelled w) = cc in
     let longer = ap length e ∙ length-append (spelled v) rest in
     (value, empty_rest (length (spelled v)) rest (omega arith))
+
+-- bytes have one answer
+pub one_true : (bytes : List ℕ) (a b : Read) → AreBytes bytes → Reads bytes a → Reads bytes b → a ≢ R.NoMemory → b ≢ R.NoMemory → a ≡ b
+one_true bytes a b small x y some ample = one_of bytes a b ample some (only bytes a small x) (only bytes b small y)
