@@ -1,12 +1,13 @@
 -- Desktops after paint lines.
-use Rattle.std.proofs.Common.{◌≡◌, inl, inr, ℕ, zero, suc, ◌+◌, ◌*◌, ◌^◌, ◌<◌, ◌≤◌, lit<, Bool, true, false, Some, List, [], ◌∷◌, ◌++◌, length, take, get_or, cond, eqb, refl, sym, ap, ◌∙◌, arith, subst}
+use Rattle.std.proofs.Common.{None, Option, Bor, ◌≡◌, inl, inr, ℕ, zero, suc, ◌+◌, ◌*◌, ◌^◌, ◌<◌, ◌≤◌, lit<, Bool, true, false, Some, List, [], ◌∷◌, ◌++◌, length, take, get_or, cond, eqb, refl, sym, ap, ◌∙◌, arith, subst}
 use Rattle.std.specs.Prelude.{ℤ, pos}
+use Rattle.std.specs.Option.{option_copied, IfSome, IfNone}
 use Rattle.std.specs.List.{slice_get}
 use Rattle.std.proofs.lemmas.Bool.{cases_lt}
 use Rattle.std.proofs.lemmas.List.{take_more, length-replicate, length_push}
 use Rattle.std.proofs.lemmas.List.Sums.{sum_by-cons, sum_by_push}
 use Rattle.std.proofs.lemmas.List.Elements.{All-replicate}
-use Rattle.std.proofs.lemmas.Option.{slice_get-get_or, slice_get_within, get_or_from_slice_get}
+use Rattle.std.proofs.lemmas.Option.{slice_get-get_or, slice_get_within, get_or_from_slice_get, none-some}
 use Rattle.std.proofs.lemmas.Grind.{common_steps}
 use Rattle.xp_base.specs.Points.{Rectangle}
 use Rattle.window_model.specs.Drawing.{blank}
@@ -39,6 +40,24 @@ desk_at_next_lem lines place line here =
     let within = slice_get_within lines place line here in
     let more : take (place + 1) lines ≡ take place lines ++ line ∷ [] = take_more lines place line within ∙ ap (λ l. take place lines ++ l ∷ []) (get_or_from_slice_get lines place line line here) in
     ap (painted_by []) more ∙ painted_by-append [] (take place lines) (line ∷ [])
+
+pub last_desk_past : (lines : List Paint) (place : ℕ) → slice_get lines place ≡ None → desk_at lines place ≡ last_desk lines
+last_desk_past lines place none =
+    elim (cases_lt place (length lines)) [
+      | inl within ↦
+          let line = get_or lines place (Open 0 (pos 0) (pos 0) 0 0) in
+          absurd (none-some line (sym none ∙ slice_get-get_or lines place (Open 0 (pos 0) (pos 0) 0 0) within))
+      | inr past ↦ desk_at_end_lem lines place past
+    ]
+
+pub next_desk : (lines : List Paint) (place : ℕ) (o : Option (Bor Paint)) → option_copied o ≡ slice_get lines place
+    → IfSome o (λ p. desk_at lines (place + 1) ≡ painted (desk_at lines place) p.now)
+next_desk lines place None is = tt
+next_desk lines place (Some p) is = desk_at_next_lem lines place p.now (sym is)
+
+pub end_desk : (lines : List Paint) (place : ℕ) (o : Option (Bor Paint)) → option_copied o ≡ slice_get lines place → IfNone o (desk_at lines place ≡ last_desk lines)
+end_desk lines place None is = last_desk_past lines place (sym is)
+end_desk lines place (Some p) is = tt
 
 -- ---- valid lines keep a desktop
 

@@ -3,4 +3,5 @@ pub mod Digits
 pub mod Lines
 pub mod Steps
 pub mod Scripts
+pub mod Faults
 mod Examples

@@ -303,7 +303,7 @@ reached_push before (line.Peer order) r is may =
 
 -- ---- all lines of a text
 
-bind_ok : {A B : Type 0} (f : A → Result B ℕ) (r : Result A ℕ) (y : B) → (r >>= f) ≡ Ok y → (x : A) × (r ≡ Ok x) × (f x ≡ Ok y)
+pub bind_ok : {A B : Type 0} (f : A → Result B ℕ) (r : Result A ℕ) (y : B) → (r >>= f) ≡ Ok y → (x : A) × (r ≡ Ok x) × (f x ≡ Ok y)
 bind_ok f (Ok x) y e = (x, refl, e)
 bind_ok f (Err d) y e = absurd cc
 
@@ -315,7 +315,7 @@ taken before (Some l) next e = allowed_is (may_follow before l) refl e
     allowed_is true may e = let is : l ≡ next = cc in (ap Some is, subst (λ k. may_follow before k ≡ true) is may)
     allowed_is false may e = absurd cc
 
-next_is : (before : List Line) (text : List ℕ) (next : Line) → next_line before text ≡ Ok next → (line_of text ≡ Some next) × (may_follow before next ≡ true)
+pub next_is : (before : List Line) (text : List ℕ) (next : Line) → next_line before text ≡ Ok next → (line_of text ≡ Some next) × (may_follow before next ≡ true)
 unfolding next_line
 next_is before text next e = taken before (line_of text) next e
 
@@ -336,7 +336,7 @@ reached_none = record {
   peers = λ _. refl;
 }
 
-chosen_ok : (b : Bool) (r : Result (List Line) ℕ) (lines : List Line) → cond b r (Err 0) ≡ Ok lines → r ≡ Ok lines
+pub chosen_ok : (b : Bool) (r : Result (List Line) ℕ) (lines : List Line) → cond b r (Err 0) ≡ Ok lines → r ≡ Ok lines
 chosen_ok true r lines e = e
 chosen_ok false r lines e = absurd cc
 

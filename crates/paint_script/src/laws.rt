@@ -1,5 +1,5 @@
 // What the definitions come to, as facts that a proof gets by a call: each call does nothing.
-ghost use Rattle.paint_script.specs.Laws.{DeskAtStart, DeskAtNext, DeskAtEnd, ValidDesks};
+ghost use Rattle.paint_script.specs.Laws.{DeskAtStart, DeskAtNext, DeskAtEnd, ValidDesks, ScriptsOfTexts, ValidScripts};
 
 /// No line has painted anything.
 pub fn desk_at_start()
@@ -22,3 +22,13 @@ pub fn valid_desks()
 {
     window_model::effects_keep();
 }
+
+/// Which lines are read from a text, and which fault.
+pub fn scripts_of_texts()
+    ensures { ScriptsOfTexts }
+{}
+
+/// The lines that are read are valid.
+pub fn valid_scripts()
+    ensures { ValidScripts }
+{}

@@ -17,7 +17,9 @@ mod script;
 mod text;
 
 pub use fault::{ScriptFault, Why};
-pub use laws::{desk_at_end, desk_at_next, desk_at_start, valid_desks};
+pub use laws::{
+    desk_at_end, desk_at_next, desk_at_start, scripts_of_texts, valid_desks, valid_scripts,
+};
 pub use line::Line;
 pub use paint::Paint;
 pub use paints::Paints;

@@ -1,5 +1,5 @@
 // The paint lines of a script.
-ghost use Rattle.std.specs.Prelude.{◌≡◌, length, slice_get, IfSome};
+ghost use Rattle.std.specs.Prelude.{◌≡◌, ◌+◌, length, slice_get, IfSome, IfNone};
 ghost use Rattle.std.specs.Option.{option_copied};
 
 use crate::paint::Paint;
@@ -25,7 +25,7 @@ impl Model for Paints {
 }
 
 impl Paints {
-    ghost use Rattle.paint_script.specs.Painting.{desk_at};
+    ghost use Rattle.paint_script.specs.Painting.{painted, desk_at, last_desk};
     ghost use Rattle.paint_script.specs.Validity.{ArePaints, IsPaintOn};
 
     pub(crate) fn new(lines: Vec<Paint>) -> Paints
@@ -51,11 +51,20 @@ impl Paints {
     }
 
     /// The line at this place, counted from 0; `None` exactly where the places end before it. It is
-    /// valid on the desktop after that many lines.
+    /// valid on the desktop after that many lines, and paints the next one; past the last line the
+    /// desktop is the last one.
     pub fn line(&self, place: usize) -> Option<&Paint>
         ensures line { option_copied result ≡ slice_get self.now place }
         ensures valid { IfSome result (λ p. IsPaintOn (desk_at self.now place) p.now) }
+        ensures next { IfSome result (λ p. desk_at self.now (place + 1) ≡ painted (desk_at self.now place) p.now) }
+        ensures last { IfNone result (desk_at self.now place ≡ last_desk self.now) }
     {
-        self.lines.as_slice().get(place)
+        line_at(self.lines.as_slice(), place)
     }
+}
+
+fn line_at(lines: &[Paint], place: usize) -> Option<&Paint>
+    ensures { option_copied result ≡ slice_get lines.now place }
+{
+    lines.get(place)
 }
