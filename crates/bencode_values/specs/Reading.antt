@@ -26,7 +26,7 @@ pub record IsDead (bytes : List ℕ) : Type 0 where
   pub begins : ¬ IsProperPrefix bytes
   pub holds : (v : Value) (n : ℕ) → ¬ BeginsWith bytes v n
 
--- the least place such that the bytes up to and with it are dead
+-- the least place such that the bytes up to and with it are dead; those before it are even alive
 pub record IsFirstDead (bytes : List ℕ) (place : ℕ) : Type 0 where
   pub within : place < length bytes
   pub dead : IsDead (take (place + 1) bytes)
@@ -40,7 +40,7 @@ pub data Open : Type 0 where
   in_dict : List Pair → Open
   in_entry : List Pair → Key → Open
 
--- what stands of it
+-- the bytes of it so far
 abbrev pub opened : Open → List ℕ
 opened (in_list vs) = 108 ∷ concat (map spelled vs)
 opened (in_dict ps) = 100 ∷ concat (map spelled_pair ps)

@@ -9,7 +9,8 @@ use crate::reading::Read;
 use crate::stop::Stop;
 use std::alloc::Global;
 
-/// What the bytes begin with: a value, a part of a spelling, or a byte that cannot stand where it stands.
+/// What the bytes begin with: a value's spelling, a part of one and nothing else, or neither, from the least place
+/// on at which that can be known.
 pub fn read_value(alloc: Global, bytes: &[u8]) -> Read
     // The answer is so.
     ensures told { Reads bytes.now result }
