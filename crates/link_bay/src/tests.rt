@@ -1,1 +1,61 @@
 use super::*;
+use std::test::Fail;
+use xp_base::{Conn, Wid};
+
+/// What an exact peer says to the announcement of window 1 at 0 0 of 2 by 2 pixels.
+const MAP: &[u8; 38] = b"P\x00\x00\x00\x00\x00\x00\x1el10:map-windowi1ei0ei0ei2ei2ee";
+
+#[test]
+fn one_peer_says_hello_and_maps_what_is_announced(rt: HostRuntime) -> Result<(), Fail> {
+    let alloc = rt.alloc();
+    let mut bay = PassingBay::new(OneBay::new(alloc));
+    assert_eq!(rt; bay.accept(), Accept::Nobody);
+    let refused = Order::Join(Kind::Lossy, Name::new(Vec::new(alloc)));
+    bay.order(&refused)?;
+    assert_eq!(rt; bay.accept(), Accept::Nobody);
+    let join = Order::Join(Kind::Exact, Name::new(Vec::new(alloc)));
+    bay.order(&join.copy(alloc)?)?;
+    bay.order(&join)?;
+    assert_eq!(rt; bay.accept(), Accept::Conn(Conn(0)));
+    assert_eq!(rt; bay.accept(), Accept::Nobody);
+    Ok(())
+}
+
+#[test]
+fn an_announcement_is_answered_once_it_is_whole(rt: HostRuntime) -> Result<(), Fail> {
+    let alloc = rt.alloc();
+    let mut bay = OneBay::new(alloc);
+    bay.order(&Order::Join(Kind::Exact, Name::new(Vec::new(alloc))))?;
+    assert_eq!(rt; bay.accept(), Accept::Conn(Conn(0)));
+    let c = Conn(0);
+    let mut said = Vec::new(alloc);
+    assert_eq!(rt; bay.read(c, &mut said, 30), Gave::Bytes(30));
+    assert_eq!(rt; bay.read(c, &mut said, 30), Gave::Bytes(9));
+    assert_eq!(rt; said.as_slice(), EXACT_HELLO.as_slice());
+    assert_eq!(rt; bay.read(c, &mut said, 30), Gave::Again);
+    let announcement = b"P\x00\x00\x00\x00\x00\x00\x20l10:new-windowi1ei0ei0ei2ei2edee";
+    assert_eq!(rt; bay.write(c, &announcement[..39]), Wrote::Took(39));
+    assert_eq!(rt; bay.read(c, &mut said, 30), Gave::Again);
+    assert_eq!(rt; bay.write(c, &announcement[39..]), Wrote::Took(1));
+    let mut map = Vec::new(alloc);
+    assert_eq!(rt; bay.read(c, &mut map, 100), Gave::Bytes(38));
+    assert_eq!(rt; map.as_slice(), MAP.as_slice());
+    assert_eq!(rt; bay.sent_bytes(), announcement.as_slice());
+    bay.close(c);
+    Ok(())
+}
+
+#[test]
+fn a_mute_provider_counts_what_takes_nothing(rt: HostRuntime) -> Result<(), Fail> {
+    let alloc = rt.alloc();
+    let mut bay = MuteBay::new(alloc, 2, 0);
+    assert_eq!(rt; bay.accept(), Accept::Conn(Conn(0)));
+    assert_eq!(rt; bay.accept(), Accept::Conn(Conn(1)));
+    assert_eq!(rt; bay.accept(), Accept::Nobody);
+    assert_eq!(rt; bay.write(Conn(1), b"abc"), Wrote::Took(0));
+    let mut into = Vec::new(alloc);
+    assert_eq!(rt; bay.read(Conn(1), &mut into, 10), Gave::Again);
+    let wid = Wid::new(7).ok_or("a window's number")?;
+    bay.order(&Order::Map(Conn(0), wid))?;
+    Ok(())
+}

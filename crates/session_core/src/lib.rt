@@ -1,0 +1,35 @@
+//! The session: its steps, and what settles it.
+#![tactic(auto)]
+
+mod abandon;
+mod accept;
+mod answers;
+mod capture;
+mod client;
+mod ends;
+mod geometry;
+mod hearing;
+mod opening;
+mod owed;
+mod packet;
+mod paint;
+mod points;
+mod receive;
+mod send;
+mod settle;
+mod source;
+mod state;
+mod text;
+pub mod wire;
+
+pub use abandon::Abandoned;
+pub use answers::{Accepted, Captured, Painted, Received, Sent};
+pub use client::Client;
+pub use ends::End;
+pub use geometry::Geometry;
+pub use packet::{Announcement, Draw, Packet};
+pub use points::Points;
+pub use settle::{Calm, How};
+pub use source::Source;
+pub use state::Session;
+pub use text::Text;

@@ -1,0 +1,50 @@
+-- The paint lines of a front part of a script.
+use Rattle.std.proofs.Common.{◌≡◌, ℕ, ◌+◌, ◌≤◌, zero, suc, List, [], ◌∷◌, length, take, Some, Result, Ok, Err, refl, ap, arith, add-one}
+use Rattle.std.specs.Prelude.{slice_get}
+use Rattle.std.proofs.lemmas.Option.{same_Some}
+use Rattle.paint_script.specs.declared.line.Line.{Line}
+use Rattle.paint_script.specs.declared.line.Line.TheVariants as L
+use Rattle.paint_script.specs.declared.paint.Paint.{Paint}
+use Rattle.link_bay.specs.declared.order.Order.{Order}
+use Rattle.paint_script.specs.Validity.{paint_lines}
+use Rattle.link_bay.specs.Provider.{ProviderRecord}
+use Rattle.link_bay.specs.Answers.{OrderGives}
+use Rattle.xp_base.specs.declared.memory.NoMemory.{NoMemory}
+
+-- so many of the first lines are paint lines
+abbrev pub painted_before : List Line → ℕ → ℕ
+painted_before lines i = length (paint_lines (take i lines))
+
+-- one more where the next line is one
+pub painted_before_paint : (lines : List Line) (i : ℕ) (p : Paint) → slice_get lines i ≡ Some (L.Paint p) → painted_before lines (suc i) ≡ painted_before lines i + 1
+painted_before_paint [] i p here = absurd (cc here)
+painted_before_paint (x ∷ lines) zero p here = let is : x ≡ L.Paint p = same_Some x (L.Paint p) here in rw is refl
+painted_before_paint (L.Paint q ∷ lines) (suc i) p here = omega (arith, painted_before_paint lines i p here)
+painted_before_paint (L.Peer order ∷ lines) (suc i) p here = painted_before_paint lines i p here
+
+-- as many where the next line is a peer line
+pub painted_before_peer : (lines : List Line) (i : ℕ) (order : Order) → slice_get lines i ≡ Some (L.Peer order) → painted_before lines (suc i) ≡ painted_before lines i
+painted_before_peer [] i order here = absurd (cc here)
+painted_before_peer (x ∷ lines) zero order here = let is : x ≡ L.Peer order = same_Some x (L.Peer order) here in rw is refl
+painted_before_peer (L.Paint q ∷ lines) (suc i) order here = omega (arith, painted_before_peer lines i order here)
+painted_before_peer (L.Peer o ∷ lines) (suc i) order here = painted_before_peer lines i order here
+
+-- no more than all
+pub painted_before_all : (lines : List Line) (i : ℕ) → painted_before lines i ≤ length (paint_lines lines)
+painted_before_all [] zero = omega arith
+painted_before_all [] (suc i) = omega arith
+painted_before_all (L.Paint q ∷ lines) zero = omega arith
+painted_before_all (L.Paint q ∷ lines) (suc i) = omega (arith, painted_before_all lines i)
+painted_before_all (L.Peer o ∷ lines) zero = omega arith
+painted_before_all (L.Peer o ∷ lines) (suc i) = painted_before_all lines i
+
+pub painted_next_paint : (lines : List Line) (i : ℕ) (p : Paint) → slice_get lines i ≡ Some (L.Paint p) → painted_before lines (i + 1) ≡ painted_before lines i + 1
+painted_next_paint lines i p here = rw add-one (painted_before_paint lines i p here)
+
+pub painted_next_peer : (lines : List Line) (i : ℕ) (order : Order) → slice_get lines i ≡ Some (L.Peer order) → painted_before lines (i + 1) ≡ painted_before lines i
+painted_next_peer lines i order here = rw add-one (painted_before_peer lines i order here)
+
+-- an order is no fault of the provider
+pub order_faults : (old new : ProviderRecord) (order : Order) (answer : Result (Unit {0}) NoMemory) → OrderGives old new order answer → new.faults ≡ old.faults
+order_faults old new order (Ok done) gives = ap (λ (p : ProviderRecord). p.faults) gives.1
+order_faults old new order (Err none) gives = ap (λ (p : ProviderRecord). p.faults) gives

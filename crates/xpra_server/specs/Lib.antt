@@ -1,0 +1,4 @@
+pub mod Read
+pub mod Texts
+pub mod Report
+pub mod Statuses

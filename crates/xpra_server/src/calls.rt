@@ -1,0 +1,148 @@
+// The top call.
+ghost use Rattle.std.specs.Prelude.{◌≡◌, ◌≤◌, ◌⊎◌, ◌↔◌, IsTrue, codes, length, map, string_bytes};
+ghost use Rattle.xp_base.specs.Counts.{Rose};
+ghost use Rattle.xp_base.specs.Told.{HasNoneLeft, told_append};
+ghost use Rattle.link_bay.specs.Provider.{IsFresh};
+ghost use Rattle.xpra_server.specs.Statuses.{IsPlay, Reports, Faults};
+ghost use Rattle.xpra_server.specs.Report.{report as report_text};
+ghost use Rattle.xpra_server.specs.Texts.{fault_line};
+ghost use Rattle.paint_script.specs.Painting.{last_desk};
+ghost use Rattle.paint_script.specs.Validity.{paint_lines};
+ghost use Rattle.xpra_server.specs.Texts.{usage_line};
+
+use crate::input::{Input, read_all};
+use crate::playing::{Played, Stop, play};
+use crate::report::write_report;
+use crate::texts::{fault_text, usage};
+use link_bay::Bay;
+use paint_script::{Script, ScriptRead, read_script};
+use session_core::End;
+use std::alloc::Global;
+use xp_base::{Put, Sink, Source};
+
+/// How many bytes a script may have.
+const LIMIT: usize = 65_536;
+
+/// What a run leaves: its status, the end of each connection by its number, and the provider.
+#[derive(Drop)]
+pub struct Outcome<B: Drop> {
+    pub status: u8,
+    pub ends: Vec<End>,
+    pub bay: B,
+}
+
+/// Plays the script that the input is, and writes the report of its last windows.
+///
+/// Status 0: the report was written. 1: the words are no form of this call; the usage line was written.
+/// 2: the input is no script; its fault line was written. 3: the input failed. 4: the output failed.
+/// 5: want of memory. 6: an accept failed.
+pub fn top<S: Source, K: Sink, B: Bay + Drop>(
+    words: &Vec<String>,
+    input: &mut S,
+    out: &mut K,
+    bay: B,
+) -> Outcome<B>
+    requires fresh { IsFresh (B.provider bay) }
+    ensures usage { result.status ≡ 1 → ¬ IsPlay (map string_bytes words.now.items) }
+    ensures wrong { ¬ IsPlay (map string_bytes words.now.items) → (result.status ≡ 1) ⊎ (result.status ≡ 4) ⊎ (result.status ≡ 5) }
+    ensures usage_text { result.status ≡ 1 → (K.sink out.new).taken ≡ told_append (K.sink out.old).taken usage_line }
+    ensures refused { result.status ≡ 2 → Faults (S.source input.old).left (K.sink out.old).taken (K.sink out.new).taken }
+    ensures report { result.status ≡ 0 → Reports (S.source input.old).left result.ends.items (K.sink out.old).taken (K.sink out.new).taken }
+    ensures input { result.status ≡ 3 → Rose (S.source input.old).faults (S.source input.new).faults }
+    ensures output { result.status ≡ 4 → Rose (K.sink out.old).faults (K.sink out.new).faults }
+    ensures accept { result.status ≡ 6 → Rose (B.provider bay).faults (B.provider result.bay).faults }
+    ensures statuses { result.status ≤ 6 }
+    ensures read { result.status ≡ 0 → HasNoneLeft (S.source input.new).left }
+    ensures ends { result.status ≡ 0 → length result.ends.items ≡ (B.provider result.bay).count }
+{
+    let alloc = *words.allocator();
+    if !is_play(words) {
+        return finished(written(out, usage(), 1), Vec::new(alloc), bay);
+    }
+    match read_all(alloc, input, LIMIT) {
+        Input::Whole(text) => match read_script(alloc, &text) {
+            ScriptRead::Valid(script) => play_script(alloc, &script, out, bay),
+            ScriptRead::Fault(fault) => refuse(alloc, fault.line, out, bay),
+            ScriptRead::NoMemory => finished(5, Vec::new(alloc), bay),
+        },
+        Input::Long => refuse(alloc, 0, out, bay),
+        Input::Failed => finished(3, Vec::new(alloc), bay),
+        Input::NoMemory => finished(5, Vec::new(alloc), bay),
+    }
+}
+
+fn is_play(words: &Vec<String>) -> bool
+    ensures { IsTrue result ↔ IsPlay (map string_bytes words.now.items) }
+{
+    match words.as_slice() {
+        [word] => is_play_word(word.as_str()),
+        _ => false,
+    }
+}
+
+fn is_play_word(word: &str) -> bool
+    ensures { IsTrue result ↔ (word.now ≡ codes "play") }
+{
+    word == "play"
+}
+
+/// Plays the script, and writes the report.
+fn play_script<K: Sink, B: Bay + Drop>(
+    alloc: Global,
+    script: &Script,
+    out: &mut K,
+    bay: B,
+) -> Outcome<B>
+    requires fresh { IsFresh (B.provider bay) }
+    ensures statuses { (result.status ≡ 0) ⊎ (result.status ≡ 4) ⊎ (result.status ≡ 5) ⊎ (result.status ≡ 6) }
+    ensures report { result.status ≡ 0 → (K.sink out.new).taken ≡ told_append (K.sink out.old).taken (report_text (last_desk (paint_lines script.now)) result.ends.items) }
+    ensures output { result.status ≡ 4 → Rose (K.sink out.old).faults (K.sink out.new).faults }
+    ensures accept { result.status ≡ 6 → Rose (B.provider bay).faults (B.provider result.bay).faults }
+    ensures ends { length result.ends.items ≡ (B.provider result.bay).count }
+{
+    let Played { shown, ends, bay } = play(alloc, script, bay);
+    let status = match shown {
+        Ok(desk) => match write_report(alloc, &desk, &ends) {
+            Ok(text) => written(out, text.as_slice(), 0),
+            Err(_) => 5,
+        },
+        Err(Stop::NoMemory) => 5,
+        Err(Stop::BayFault) => 6,
+    };
+    finished(status, ends, bay)
+}
+
+/// Writes the fault of the script at this line.
+fn refuse<K: Sink, B: Bay + Drop>(alloc: Global, line: u32, out: &mut K, bay: B) -> Outcome<B>
+    ensures statuses { (result.status ≡ 2) ⊎ (result.status ≡ 4) ⊎ (result.status ≡ 5) }
+    ensures text { result.status ≡ 2 → (K.sink out.new).taken ≡ told_append (K.sink out.old).taken (fault_line line) }
+    ensures output { result.status ≡ 4 → Rose (K.sink out.old).faults (K.sink out.new).faults }
+{
+    let none = Vec::new(alloc);
+    match fault_text(alloc, line) {
+        Ok(text) => finished(written(out, text.as_slice(), 2), none, bay),
+        Err(_) => finished(5, none, bay),
+    }
+}
+
+/// The status where the text is taken, or that of a fault of the output.
+fn written<K: Sink>(out: &mut K, text: &[u8], status: u8) -> u8
+    requires { status ≤ 2 }
+    ensures statuses { (result ≡ status) ⊎ (result ≡ 4) ⊎ (result ≡ 5) }
+    ensures text { result ≡ status → (K.sink out.new).taken ≡ told_append (K.sink out.old).taken text.now }
+    ensures output { result ≡ 4 → Rose (K.sink out.old).faults (K.sink out.new).faults }
+{
+    match out.put(text) {
+        Put::Done => status,
+        Put::Failed => 4,
+        Put::NoMemory => 5,
+    }
+}
+
+fn finished<B: Bay + Drop>(status: u8, ends: Vec<End>, bay: B) -> Outcome<B>
+    ensures status { result.status ≡ status }
+    ensures ends { result.ends.items ≡ ends.items }
+    ensures bay { result.bay ≡ bay }
+{
+    Outcome { status, ends, bay }
+}

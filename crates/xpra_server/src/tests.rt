@@ -1,0 +1,162 @@
+use crate::calls::{Outcome, top};
+use link_bay::{MuteBay, OneBay};
+use session_core::End;
+use std::alloc::Global;
+use std::test::Fail;
+use xp_base::{MemSink, MemSource};
+
+/// The words of a call, cut at blanks.
+fn words_of(alloc: Global, text: &str) -> Result<Vec<String>, Fail> {
+    let mut words = Vec::new(alloc);
+    for word in text.split_whitespace() {
+        words.push(String::from_str(alloc, word)?)?;
+    }
+    Ok(words)
+}
+
+fn numbers(alloc: Global, list: &[u64]) -> Result<Vec<u64>, Fail> {
+    Ok(list.to_vec(alloc)?)
+}
+
+/// What a script prints, and its status.
+fn played(
+    alloc: Global,
+    words: &str,
+    script: &[u8],
+    out: &mut MemSink,
+) -> Result<Outcome<OneBay>, Fail> {
+    let words = words_of(alloc, words)?;
+    let mut input = MemSource::new(script.to_vec(alloc)?, numbers(alloc, &[])?);
+    Ok(top(&words, &mut input, out, OneBay::new(alloc)))
+}
+
+#[test]
+fn scripts_print_their_reports_and_faults(rt: HostRuntime) -> Result<(), Fail> {
+    let alloc = rt.alloc();
+    let table: [(&str, &[u8], u8, &[u8]); 12] = [
+        ("play", b"", 0, b"windows 0\n"),
+        (
+            "play",
+            b"open 1 0 0 2 2\nfill 1 0 0 2 2 ff0000\npeer exact\n",
+            0,
+            b"windows 1\nwindow 1 0 0 2 2 66846720\nclient 0 settled\n",
+        ),
+        ("play", b"peer exact", 0, b"windows 0\nclient 0 settled\n"),
+        (
+            "play",
+            b"peer exact\nopen 7 5 6 3 2\nfill 7 1 1 2 1 0000ff\n",
+            0,
+            b"windows 1\nwindow 7 5 6 3 2 510\nclient 0 settled\n",
+        ),
+        (
+            "play",
+            b"open 65535 32767 0 1 4096\n",
+            0,
+            b"windows 1\nwindow 65535 32767 0 1 4096 0\n",
+        ),
+        ("play", b"close 1", 2, b"script line 1: unbuilt\n"),
+        (
+            "play",
+            b"open 1 0 0 2 2\nfill 1 1 0 2 1 ff0000\n",
+            2,
+            b"script line 2: unbuilt\n",
+        ),
+        (
+            "play",
+            b"peer exact\n\npeer exact\n",
+            2,
+            b"script line 2: unbuilt\n",
+        ),
+        (
+            "",
+            b"",
+            1,
+            b"usage: xpra_server play | replay | gen N | crowd N | serve ADDR | view ADDR\n",
+        ),
+        (
+            "play play",
+            b"",
+            1,
+            b"usage: xpra_server play | replay | gen N | crowd N | serve ADDR | view ADDR\n",
+        ),
+        (
+            "--help",
+            b"",
+            1,
+            b"usage: xpra_server play | replay | gen N | crowd N | serve ADDR | view ADDR\n",
+        ),
+        (
+            "replay",
+            b"",
+            1,
+            b"usage: xpra_server play | replay | gen N | crowd N | serve ADDR | view ADDR\n",
+        ),
+    ];
+    for (words, script, status, printed) in table {
+        let mut out = MemSink::new(alloc, numbers(alloc, &[])?);
+        let outcome = played(alloc, words, script, &mut out)?;
+        assert_eq!(rt; outcome.status, status, "{words}");
+        assert_eq!(rt; out.bytes(), printed, "{words}");
+    }
+    Ok(())
+}
+
+#[test]
+fn an_input_past_its_limit_is_refused_at_line_0(rt: HostRuntime) -> Result<(), Fail> {
+    let alloc = rt.alloc();
+    for (size, printed) in [
+        (65_537, b"script line 0: unbuilt\n"),
+        (65_536, b"script line 1: unbuilt\n"),
+    ] {
+        let script = vec![in alloc; b'a'; size]?;
+        let mut out = MemSink::new(alloc, numbers(alloc, &[])?);
+        let outcome = played(alloc, "play", script.as_slice(), &mut out)?;
+        assert_eq!(rt; outcome.status, 2);
+        assert_eq!(rt; out.bytes(), printed.as_slice());
+    }
+    Ok(())
+}
+
+#[test]
+fn a_fault_of_the_input_or_the_output_is_told_by_the_status(rt: HostRuntime) -> Result<(), Fail> {
+    let alloc = rt.alloc();
+    let words = words_of(alloc, "play")?;
+    let mut input = MemSource::new(Vec::new(alloc), numbers(alloc, &[1])?);
+    let mut out = MemSink::new(alloc, numbers(alloc, &[])?);
+    let outcome = top(&words, &mut input, &mut out, OneBay::new(alloc));
+    assert_eq!(rt; outcome.status, 3);
+    assert_eq!(rt; out.bytes(), b"".as_slice());
+    let mut failing = MemSink::new(alloc, numbers(alloc, &[1])?);
+    let outcome = played(alloc, "play", b"peer exact\n", &mut failing)?;
+    assert_eq!(rt; outcome.status, 4);
+    assert_eq!(rt; outcome.ends.as_slice(), [End::Settled].as_slice());
+    assert_eq!(rt; failing.bytes(), b"".as_slice());
+    Ok(())
+}
+
+#[test]
+fn a_second_read_of_the_input_may_fail(rt: HostRuntime) -> Result<(), Fail> {
+    let alloc = rt.alloc();
+    let words = words_of(alloc, "play")?;
+    let script = b"open 1 0 0 2 2\n".to_vec(alloc)?;
+    let mut input = MemSource::new(script, numbers(alloc, &[2])?);
+    let mut out = MemSink::new(alloc, numbers(alloc, &[])?);
+    let outcome = top(&words, &mut input, &mut out, OneBay::new(alloc));
+    assert_eq!(rt; outcome.status, 3);
+    Ok(())
+}
+
+#[test]
+fn a_provider_that_tells_nothing_serves_as_well(rt: HostRuntime) -> Result<(), Fail> {
+    let alloc = rt.alloc();
+    let words = words_of(alloc, "play")?;
+    let mut input = MemSource::new(b"open 1 0 0 1 1\n".to_vec(alloc)?, numbers(alloc, &[])?);
+    let mut out = MemSink::new(alloc, numbers(alloc, &[])?);
+    let outcome = top(&words, &mut input, &mut out, MuteBay::new(alloc, 1, 100));
+    assert_eq!(rt; outcome.status, 0);
+    assert_eq!(rt;
+        out.bytes(),
+        b"windows 1\nwindow 1 0 0 1 1 0\nclient 0 unbuilt\n".as_slice()
+    );
+    Ok(())
+}
