@@ -9,10 +9,7 @@ mod plain_parts;
 mod point_set;
 mod selections;
 
-pub use at_point::{each_point, AtPoint};
-pub use pixel_grid::PixelGrid;
-pub use plain_parts::{PlainDraw, PlainJob, PlainPacket, PlainPlanned, PlainSent};
-pub use point_set::PointSet;
+pub use at_point::{AtPoint, each_point};
 pub use laws::{
     cancelled_numbers_never_come_back, closing_leaves_no_job, every_event_changes_owed_as_stated,
     every_event_keeps_the_form, every_run_keeps_the_form, form_gives_invariant,
@@ -20,3 +17,6 @@ pub use laws::{
     nothing_in_front_kept, resize_anew, resize_keeping, start_owes_all, unowed_is_shown,
     versions_are_lawful,
 };
+pub use pixel_grid::PixelGrid;
+pub use plain_parts::{PlainDraw, PlainJob, PlainPacket, PlainPlanned, PlainSent};
+pub use point_set::PointSet;

@@ -2,7 +2,7 @@
 ghost use Rattle.std.specs.Prelude.{◌≡◌, ◌≤◌, IfOk};
 ghost use Rattle.delivery_model.specs.Grids.{grid, number};
 
-use crate::at_point::{each_point, AtPoint};
+use crate::at_point::{AtPoint, each_point};
 use std::alloc::{AllocError, Global};
 use std::marker::Model;
 

@@ -29,10 +29,10 @@ impl Model for PlainJob {
     ghost Value = { Job };
 
     ghost view = { λ j. record {
-        number = j.number;
-        capture = record { rect = j.rect; coding = j.coding; pixels = j.pixels.items };
-        relief = j.relief;
-        encoded = j.encoded;
+      number = j.number;
+      capture = record { rect = j.rect; coding = j.coding; pixels = j.pixels.items };
+      relief = j.relief;
+      encoded = j.encoded;
     } };
 }
 
@@ -52,11 +52,11 @@ impl Model for PlainDraw {
     ghost Value = { Draw };
 
     ghost view = { λ d. record {
-        sequence = d.sequence;
-        rect = d.rect;
-        coding = d.coding;
-        shown = d.shown.items;
-        relief = d.relief;
+      sequence = d.sequence;
+      rect = d.rect;
+      coding = d.coding;
+      shown = d.shown.items;
+      relief = d.relief;
     } };
 }
 

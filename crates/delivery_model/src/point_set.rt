@@ -4,7 +4,7 @@ ghost use Rattle.std.specs.List.{list_any};
 ghost use Rattle.delivery_model.specs.Grids.{points, has};
 ghost use Rattle.delivery_model.specs.Events.{is_empty};
 
-use crate::at_point::{each_point, AtPoint};
+use crate::at_point::{AtPoint, each_point};
 use std::alloc::{AllocError, Global};
 use std::marker::Model;
 
@@ -37,11 +37,7 @@ impl PointSet {
         ensures { IfOk result (λ p. p ≡ points wide high (T.value test.now)) }
     {
         let marks = each_point(alloc, wide, high, test)?;
-        Ok(PointSet {
-            wide,
-            high,
-            marks,
-        })
+        Ok(PointSet { wide, high, marks })
     }
 
     #[tactic(auto, unfolding(crate::specs::Grids::has))]

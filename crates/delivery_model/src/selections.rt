@@ -56,7 +56,6 @@ pub struct Everywhere {
 }
 
 impl AtPoint<bool> for Everywhere {
-
     ghost value = { λ t x y. t.mark };
 
     fn at(&self, x: u32, y: u32) -> bool {
@@ -200,7 +199,6 @@ pub struct Plain {
 }
 
 impl AtPoint<u32> for Plain {
-
     ghost value = { λ t x y. t.number };
 
     fn at(&self, x: u32, y: u32) -> u32 {
