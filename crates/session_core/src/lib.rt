@@ -33,3 +33,6 @@ pub use settle::{Calm, How};
 pub use source::Source;
 pub use state::Session;
 pub use text::Text;
+
+#[cfg(test)]
+mod tests;
