@@ -135,24 +135,24 @@ keeps_result rules k w kept = record {
 
 -- the regions after a draw was queued
 pub has-relief_queued : (w : Window) (j : Job) (coding : Coding) (x y : ℕ) → is_within w.desk.wide w.desk.high x y ≡ true
-    → has (relief_queued w j coding) x y ≡ relief_at (job_at j x y) coding (has w.lossy x y)
+    → has (relief_queued w j.capture.rect j.relief coding) x y ≡ relief_at (job_at j x y) coding (has w.lossy x y)
 has-relief_queued w j C.Exact x y within = has-points_within w.desk.wide w.desk.high (λ x y. has j.relief x y || (has w.lossy x y && is_in j.capture.rect x y)) x y within
 has-relief_queued w j C.Lossy x y within = refl
 
 pub has-lossy_queued : (w : Window) (j : Job) (coding : Coding) (x y : ℕ) → is_within w.desk.wide w.desk.high x y ≡ true
-    → has (lossy_queued w j coding) x y ≡ lossy_at (job_at j x y) coding (has w.lossy x y)
+    → has (lossy_queued w j.capture.rect coding) x y ≡ lossy_at (job_at j x y) coding (has w.lossy x y)
 has-lossy_queued w j C.Exact x y within = has-points_within w.desk.wide w.desk.high (λ x y. has w.lossy x y && not (is_in j.capture.rect x y)) x y within
 has-lossy_queued w j C.Lossy x y within = has-points_within w.desk.wide w.desk.high (λ x y. has w.lossy x y || is_in j.capture.rect x y) x y within
 
-lossy_over : (w : Window) (j : Job) (coding : Coding) → IsOver w.desk.wide w.desk.high (lossy_queued w j coding)
+lossy_over : (w : Window) (j : Job) (coding : Coding) → IsOver w.desk.wide w.desk.high (lossy_queued w j.capture.rect coding)
 lossy_over w j C.Exact = record { wide = refl; high = refl }
 lossy_over w j C.Lossy = record { wide = refl; high = refl }
 
-relief_over : (w : Window) (j : Job) (coding : Coding) → JobFits w.desk.wide w.desk.high j → IsOver w.desk.wide w.desk.high (relief_queued w j coding)
+relief_over : (w : Window) (j : Job) (coding : Coding) → JobFits w.desk.wide w.desk.high j → IsOver w.desk.wide w.desk.high (relief_queued w j.capture.rect j.relief coding)
 relief_over w j C.Exact fits = record { wide = refl; high = refl }
 relief_over w j C.Lossy fits = fits.over
 
-relief_inside : (w : Window) (j : Job) (coding : Coding) → JobFits w.desk.wide w.desk.high j → (x y : ℕ) → has (relief_queued w j coding) x y ≡ true → is_in j.capture.rect x y ≡ true
+relief_inside : (w : Window) (j : Job) (coding : Coding) → JobFits w.desk.wide w.desk.high j → (x y : ℕ) → has (relief_queued w j.capture.rect j.relief coding) x y ≡ true → is_in j.capture.rect x y ≡ true
 relief_inside w j C.Exact fits x y there = which (or_cases _ _ (and_parts _ _ (rw (has-points w.desk.wide w.desk.high (λ x y. has j.relief x y || (has w.lossy x y && is_in j.capture.rect x y)) x y) at there)).1)
   where
     which : (has j.relief x y ≡ true) ⊎ ((has w.lossy x y && is_in j.capture.rect x y) ≡ true) → is_in j.capture.rect x y ≡ true
@@ -182,7 +182,7 @@ keeps_queued rules now j jobs w kept = record {
       rect = j.capture.rect;
       coding = j.capture.coding;
       shown = map (shown rules j.capture.coding) j.capture.pixels;
-      relief = relief_queued w j j.capture.coding;
+      relief = relief_queued w j.capture.rect j.relief j.capture.coding;
     }
 
     drawn : (x y : ℕ) → IsDrawOf rules (job_at j x y) (draw_at draw x y)

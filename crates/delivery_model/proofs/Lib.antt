@@ -8,4 +8,6 @@ pub mod Steadies
 pub mod OwedSteps
 pub mod Runs
 pub mod Loops
+pub mod Ready
+pub mod Resizing
 pub mod Examples

@@ -1,6 +1,6 @@
 -- One step of a loop.
-use Rattle.std.proofs.Common.{◌≡◌, ℕ, ◌+◌, ◌*◌, ◌/◌, ◌<◌, ◌≤◌, subst, List, [], ◌∷◌, ◌++◌, map, arith}
-use Rattle.std.specs.List.{range_with_len}
+use Rattle.std.proofs.Common.{◌≡◌, ℕ, ◌+◌, ◌*◌, ◌/◌, ◌<◌, ◌≤◌, subst, List, [], ◌∷◌, ◌++◌, map, arith, Bool, ◌||◌, refl, ap}
+use Rattle.std.specs.List.{range_with_len, list_any}
 use Rattle.std.proofs.lemmas.List.FromFn.{map-range_with_len_more}
 use Rattle.std.proofs.lemmas.Nat.{div_below}
 use Rattle.std.proofs.Math.Nat.{mul_comm}
@@ -10,3 +10,12 @@ one_more f n = map-range_with_len_more f 0 n n (omega arith)
 
 pub row_below : (k wide high : ℕ) → 1 ≤ wide → high ≤ 4096 → k < wide * high → k / wide < 4096
 row_below k wide high some limit below = let row : k / wide < high = div_below k wide high (omega arith) (subst (λ (n : ℕ). k < n) (mul_comm wide high) below) in omega arith
+
+-- a test of each packet, as the packet is seen
+pub any_seen : {X Y : Type 0} (seen : X → Y) (test : Y → Bool) (xs : List X) → list_any (λ x. test (seen x)) xs ≡ list_any test (map seen xs)
+any_seen seen test [] = refl
+any_seen seen test (x ∷ xs) = ap (λ (b : Bool). test (seen x) || b) (any_seen seen test xs)
+
+pub map_more : {X Y : Type 0} (f : X → Y) (xs : List X) (x : X) → map f (xs ++ x ∷ []) ≡ map f xs ++ f x ∷ []
+map_more f [] x = refl
+map_more f (y ∷ xs) x = ap (λ ys. f y ∷ ys) (map_more f xs x)

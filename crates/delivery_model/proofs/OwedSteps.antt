@@ -69,7 +69,7 @@ owed_queued : (rules : Rules) (now : ℕ) (j : Job) (jobs : List Job) (w : Windo
 owed_queued rules now j jobs w fits x y within = rw packets_relieve-append (coded j.capture.coding refl)
   where
     coded : (coding : Coding) → j.capture.coding ≡ coding
-        → ((has w.pending x y || jobs_relieve jobs x y) || ((packets_relieve w.packets x y || has (relief_queued w j coding) x y) || has (lossy_queued w j coding) x y))
+        → ((has w.pending x y || jobs_relieve jobs x y) || ((packets_relieve w.packets x y || has (relief_queued w j.capture.rect j.relief coding) x y) || has (lossy_queued w j.capture.rect coding) x y))
         ≡ ((has w.pending x y || (has j.relief x y || jobs_relieve jobs x y)) || (packets_relieve w.packets x y || has w.lossy x y))
     coded C.Exact is = rw (has-relief_queued w j C.Exact x y within, has-lossy_queued w j C.Exact x y within) (grind (arith, nat_tests))
     coded C.Lossy is = rw (has-relief_queued w j C.Lossy x y within, has-lossy_queued w j C.Lossy x y within) (grind (arith, nat_tests, fits.whole is x y))

@@ -92,13 +92,13 @@ pub record IsPlan (w : Window) (plan : List Planned) : Type 0 where
   pub lossy : All (λ (p : Planned). p.coding ≡ C.Lossy → (x y : ℕ) → is_in p.rect x y ≡ true → has (region_taken w) x y ≡ true) plan
 
 -- an exact draw also relieves the lossy points in its rectangle, which stop being lossy; a lossy one makes its rectangle lossy since now
-abbrev pub relief_queued : Window → Job → Coding → Points
-relief_queued w j C.Exact = points_of w (λ x y. has j.relief x y || (has w.lossy x y && is_in j.capture.rect x y))
-relief_queued w j C.Lossy = j.relief
+abbrev pub relief_queued : Window → Rectangle → Points → Coding → Points
+relief_queued w rect relief C.Exact = points_of w (λ x y. has relief x y || (has w.lossy x y && is_in rect x y))
+relief_queued w rect relief C.Lossy = relief
 
-abbrev pub lossy_queued : Window → Job → Coding → Points
-lossy_queued w j C.Exact = points_of w (λ x y. has w.lossy x y && not (is_in j.capture.rect x y))
-lossy_queued w j C.Lossy = points_of w (λ x y. has w.lossy x y || is_in j.capture.rect x y)
+abbrev pub lossy_queued : Window → Rectangle → Coding → Points
+lossy_queued w rect C.Exact = points_of w (λ x y. has w.lossy x y && not (is_in rect x y))
+lossy_queued w rect C.Lossy = points_of w (λ x y. has w.lossy x y || is_in rect x y)
 
 abbrev pub lossy_since_queued : ℕ → Window → Coding → ℕ
 lossy_since_queued now w C.Exact = w.lossy_since
@@ -112,9 +112,9 @@ queued rules now j w = record w {
     rect = j.capture.rect;
     coding = j.capture.coding;
     shown = map (shown rules j.capture.coding) j.capture.pixels;
-    relief = relief_queued w j j.capture.coding;
+    relief = relief_queued w j.capture.rect j.relief j.capture.coding;
   }) ∷ [];
-  lossy = lossy_queued w j j.capture.coding;
+  lossy = lossy_queued w j.capture.rect j.capture.coding;
   lossy_since = lossy_since_queued now w j.capture.coding;
   unacknowledged = w.unacknowledged ++ record { sequence = w.next_sequence; rect = j.capture.rect } ∷ [];
   next_sequence = w.next_sequence + 1;
@@ -221,16 +221,18 @@ desk_resized w h desk = grid w h (λ x y. if is_within desk.wide desk.high x y t
 
 -- a resize cancels all jobs in hand; the points that do not survive are pending, and those that were pending or relieved by a job;
 -- lossy points and reliefs keep what survives
-abbrev pub resized : Rules → ℕ → ℕ → ℕ → Window → Window
-resized rules w h now old =
-    let kept : ℕ → ℕ → Bool = rules.survives old.desk.wide old.desk.high w h in
-    put_pending (points w h (λ x y. not (kept x y) || (has old.pending x y || jobs_relieve old.jobs x y))) now
-    (record old {
+abbrev pub resized_from : Rules → ℕ → ℕ → ℕ → ℕ → ℕ → Window → Window
+resized_from rules w0 h0 w h now old =
+    let kept : ℕ → ℕ → Bool = rules.survives w0 h0 w h in
+    put_pending (points w h (λ x y. not (kept x y) || (has old.pending x y || jobs_relieve old.jobs x y))) now (record old {
       desk = desk_resized w h old.desk;
       packets = map (with_relief w h kept) old.packets ++ WindowResized w h ∷ [];
       jobs = [];
       lossy = points w h (λ x y. has old.lossy x y && kept x y);
     })
+
+abbrev pub resized : Rules → ℕ → ℕ → ℕ → Window → Window
+resized rules w h now old = resized_from rules old.desk.wide old.desk.high w h now old
 
 pub data Event : Type 0 where
   -- attach or open, with the desktop's window

@@ -1,20 +1,18 @@
 -- A window that is played plainly, seen as the model's window.
 use Rattle.std.specs.Prelude.{ℕ, ◌*◌, ◌/◌, Bool, ◌&&◌}
 use Rattle.xp_base.specs.Points.{is_within}
-use Rattle.delivery_model.specs.Window.{Packet, NewWindow, WindowResized, Draws, Sent, Rules}
-use Rattle.delivery_model.specs.Events.{Planned}
+use Rattle.delivery_model.specs.Window.{Packet, NewWindow, WindowResized, Draws, Rules}
+use Rattle.delivery_model.specs.Events.{Planned, Filing, Late, Foreign, Filed}
+use Rattle.delivery_model.specs.declared.plain_replies.PlainFiling.{PlainFiling}
+use Rattle.delivery_model.specs.declared.plain_replies.PlainFiling.TheVariants as F
 use Rattle.delivery_model.specs.declared.plain_parts.PlainPacket.{PlainPacket}
 use Rattle.delivery_model.specs.declared.plain_parts.PlainPacket.TheVariants as P
-use Rattle.delivery_model.specs.declared.plain_parts.PlainSent.{PlainSent}
 use Rattle.delivery_model.specs.declared.plain_parts.PlainPlanned.{PlainPlanned}
 
 abbrev pub packet_seen : PlainPacket → Packet
-packet_seen (P.NewWindow wide high) = NewWindow wide high
-packet_seen (P.WindowResized wide high) = WindowResized wide high
+packet_seen (P.NewWindow size) = NewWindow size.w size.h
+packet_seen (P.WindowResized size) = WindowResized size.w size.h
 packet_seen (P.Draws d) = Draws d
-
-abbrev pub sent_seen : PlainSent → Sent
-sent_seen s = record { sequence = s.sequence; rect = s.rect }
 
 abbrev pub plan_seen : PlainPlanned → Planned
 plan_seen p = record { rect = p.rect; coding = p.coding }
@@ -26,3 +24,8 @@ even_below n = n / 2 * 2
 -- whether a resize keeps the overlap
 abbrev pub plain_rules : Bool → Rules
 plain_rules keeps = record { lossy_shows = even_below; survives = λ w0 h0 w h x y. keeps && (is_within w0 h0 x y && is_within w h x y) }
+
+abbrev pub filing_seen : PlainFiling → Filing
+filing_seen F.Late = Late
+filing_seen F.Foreign = Foreign
+filing_seen F.Filed = Filed

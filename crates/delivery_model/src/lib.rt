@@ -5,7 +5,11 @@
 mod at_point;
 mod laws;
 mod pixel_grid;
+mod plain_captures;
+mod plain_draws;
 mod plain_parts;
+mod plain_replies;
+mod plain_window;
 mod point_set;
 mod selections;
 
@@ -18,5 +22,11 @@ pub use laws::{
     versions_are_lawful,
 };
 pub use pixel_grid::PixelGrid;
+pub use plain_draws::shown;
 pub use plain_parts::{PlainDraw, PlainJob, PlainPacket, PlainPlanned, PlainSent};
+pub use plain_replies::PlainFiling;
+pub use plain_window::PlainWindow;
 pub use point_set::PointSet;
+
+#[cfg(test)]
+mod tests;

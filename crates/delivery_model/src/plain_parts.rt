@@ -63,8 +63,10 @@ impl Model for PlainDraw {
 /// A packet that waits to be written.
 #[derive(Debug, Drop)]
 pub enum PlainPacket {
-    NewWindow { wide: u32, high: u32 },
-    WindowResized { wide: u32, high: u32 },
+    /// Of the size of this rectangle.
+    NewWindow { size: Rect },
+    /// Of the size of this rectangle.
+    WindowResized { size: Rect },
     Draws(PlainDraw),
 }
 
@@ -73,4 +75,14 @@ pub enum PlainPacket {
 pub struct PlainSent {
     pub sequence: u64,
     pub rect: Rect,
+}
+
+impl Model for PlainSent {
+    ghost use Rattle.delivery_model.specs.Window.{Sent};
+
+    ghost Value = { Sent };
+
+    ghost view = { λ s. record { sequence = s.sequence; rect = s.rect } };
+
+    ghost inverse = { λ s. record { sequence = s.sequence; rect = s.rect } };
 }

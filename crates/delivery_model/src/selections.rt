@@ -1,13 +1,15 @@
 // Which points the new sets of a step have, and which numbers its new grids.
-ghost use Rattle.std.specs.Prelude.{◌≡◌, true};
+ghost use Rattle.std.specs.Prelude.{◌≡◌, true, map};
+ghost use Rattle.std.specs.List.{list_any};
+ghost use Rattle.delivery_model.specs.Owed.{packet_relieves, packets_relieve};
 ghost use Rattle.xp_base.specs.Points.{is_in};
 ghost use Rattle.delivery_model.specs.Grids.{number_in};
 ghost use Rattle.delivery_model.specs.Events.{jobs_relieve};
-ghost use Rattle.delivery_model.specs.Plain.{plain_rules};
+ghost use Rattle.delivery_model.specs.Plain.{plain_rules, packet_seen};
 
 use crate::at_point::AtPoint;
 use crate::pixel_grid::PixelGrid;
-use crate::plain_parts::PlainJob;
+use crate::plain_parts::{PlainJob, PlainPacket};
 use crate::point_set::PointSet;
 use xp_base::Rect;
 
@@ -51,6 +53,7 @@ pub fn number_in(rect: Rect, numbers: &[u32], x: u32, y: u32) -> u32
 }
 
 /// All points, or none.
+#[derive(Clone, Copy)]
 pub struct Everywhere {
     pub mark: bool,
 }
@@ -65,6 +68,7 @@ impl AtPoint<bool> for Everywhere {
 }
 
 /// The points of a set, and those of a rectangle.
+#[derive(Clone, Copy)]
 pub struct WithRect<'a> {
     pub set: &'a PointSet,
     pub rect: Rect,
@@ -83,6 +87,7 @@ impl AtPoint<bool> for WithRect<'_> {
 }
 
 /// The points of a set that are not in a rectangle.
+#[derive(Clone, Copy)]
 pub struct WithoutRect<'a> {
     pub set: &'a PointSet,
     pub rect: Rect,
@@ -101,6 +106,7 @@ impl AtPoint<bool> for WithoutRect<'_> {
 }
 
 /// The points of a set that are in a rectangle.
+#[derive(Clone, Copy)]
 pub struct InRect<'a> {
     pub set: &'a PointSet,
     pub rect: Rect,
@@ -119,6 +125,7 @@ impl AtPoint<bool> for InRect<'_> {
 }
 
 /// The points of a relief, and the lossy ones in a rectangle.
+#[derive(Clone, Copy)]
 pub struct WithLossy<'a> {
     pub relief: &'a PointSet,
     pub lossy: &'a PointSet,
@@ -138,6 +145,7 @@ impl AtPoint<bool> for WithLossy<'_> {
 }
 
 /// The points of a set, and those that a job in hand relieves.
+#[derive(Clone, Copy)]
 pub struct WithJobs<'a> {
     pub set: &'a PointSet,
     pub jobs: &'a [PlainJob],
@@ -156,6 +164,7 @@ impl AtPoint<bool> for WithJobs<'_> {
 }
 
 /// The points that do not survive a resize, those of a set, and those that a job in hand relieves.
+#[derive(Clone, Copy)]
 pub struct OwedAnew<'a> {
     pub sizes: Sizes,
     pub set: &'a PointSet,
@@ -176,6 +185,7 @@ impl AtPoint<bool> for OwedAnew<'_> {
 }
 
 /// The points of a set that survive a resize.
+#[derive(Clone, Copy)]
 pub struct Surviving<'a> {
     pub sizes: Sizes,
     pub set: &'a PointSet,
@@ -194,6 +204,7 @@ impl AtPoint<bool> for Surviving<'_> {
 }
 
 /// One number everywhere.
+#[derive(Clone, Copy)]
 pub struct Plain {
     pub number: u32,
 }
@@ -208,6 +219,7 @@ impl AtPoint<u32> for Plain {
 }
 
 /// A window's numbers, with new ones in a rectangle, which are given for the whole window.
+#[derive(Clone, Copy)]
 pub struct Painted<'a> {
     pub desk: &'a PixelGrid,
     pub rect: Rect,
@@ -234,6 +246,7 @@ impl AtPoint<u32> for Painted<'_> {
 }
 
 /// A window's numbers where both sizes have the point, else 0.
+#[derive(Clone, Copy)]
 pub struct Resized<'a> {
     pub desk: &'a PixelGrid,
 }
@@ -255,6 +268,7 @@ impl AtPoint<u32> for Resized<'_> {
 }
 
 /// A rectangle's numbers.
+#[derive(Clone, Copy)]
 pub struct Cut<'a> {
     pub desk: &'a PixelGrid,
     pub rect: Rect,
@@ -273,6 +287,7 @@ impl AtPoint<u32> for Cut<'_> {
 }
 
 /// A window's numbers, with those of a draw in its rectangle.
+#[derive(Clone, Copy)]
 pub struct Drawn<'a> {
     pub grid: &'a PixelGrid,
     pub rect: Rect,
@@ -296,6 +311,7 @@ impl AtPoint<u32> for Drawn<'_> {
 }
 
 /// A client's numbers that survive a resize, else 0.
+#[derive(Clone, Copy)]
 pub struct Kept<'a> {
     pub sizes: Sizes,
     pub grid: &'a PixelGrid,
@@ -314,5 +330,53 @@ impl AtPoint<u32> for Kept<'_> {
         } else {
             0
         }
+    }
+}
+
+/// Whether the packet's draw relieves the point.
+pub fn packet_relieves(packet: &PlainPacket, x: u32, y: u32) -> bool
+    ensures { result ≡ packet_relieves (packet_seen packet.now) x y }
+{
+    match packet {
+        PlainPacket::NewWindow { .. } => false,
+        PlainPacket::WindowResized { .. } => false,
+        PlainPacket::Draws(draw) => draw.relief.has(x, y),
+    }
+}
+
+/// Whether some waiting draw relieves the point.
+pub fn packets_relieve(packets: &[PlainPacket], x: u32, y: u32) -> bool
+    ensures { result ≡ packets_relieve (map packet_seen packets.now) x y }
+{
+    any_packet(packets, x, y)
+}
+
+fn any_packet(packets: &[PlainPacket], x: u32, y: u32) -> bool
+    ensures { result ≡ list_any (λ p. packet_relieves (packet_seen p) x y) packets.now }
+{
+    packets.iter().any(|packet| packet_relieves(packet, x, y))
+}
+
+/// The points that a client is owed.
+#[derive(Clone, Copy)]
+pub struct IsOwed<'a> {
+    pub pending: &'a PointSet,
+    pub jobs: &'a [PlainJob],
+    pub packets: &'a [PlainPacket],
+    pub lossy: &'a PointSet,
+}
+
+impl AtPoint<bool> for IsOwed<'_> {
+    ghost use Rattle.std.specs.Prelude.{◌||◌, map};
+    ghost use Rattle.delivery_model.specs.Grids.{has};
+    ghost use Rattle.delivery_model.specs.Events.{jobs_relieve};
+    ghost use Rattle.delivery_model.specs.Owed.{packets_relieve};
+    ghost use Rattle.delivery_model.specs.Plain.{packet_seen};
+
+    ghost value = { λ t x y. (has t.pending.now x y || jobs_relieve t.jobs.now x y) || (packets_relieve (map packet_seen t.packets.now) x y || has t.lossy.now x y) };
+
+    fn at(&self, x: u32, y: u32) -> bool {
+        (self.pending.has(x, y) || jobs_relieve(self.jobs, x, y))
+            || (packets_relieve(self.packets, x, y) || self.lossy.has(x, y))
     }
 }
