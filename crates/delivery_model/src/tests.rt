@@ -1,4 +1,6 @@
 // Runs of small windows: how many points are owed after each thing that happens.
+ghost use Rattle.xp_base.specs.Points.{IsRectangle};
+
 use crate::selections::Plain;
 use crate::{PixelGrid, PlainFiling, PlainPlanned, PlainWindow};
 use std::alloc::Global;
@@ -33,7 +35,9 @@ enum Step {
     Resize(Rect, bool),
 }
 
-const fn at(x: u32, y: u32, w: u32, h: u32) -> Rect {
+const fn at(x: u32, y: u32, w: u32, h: u32) -> Rect
+    requires { IsRectangle (record { x = x; y = y; w = w; h = h }) }
+{
     Rect { x, y, w, h }
 }
 

@@ -75,7 +75,7 @@ impl<B: Bay + Drop> Session<B> {
         self.bay.order(order)
     }
 
-    /// Whether a paint line is left; and what every session keeps, as a fact for proofs.
+    /// Whether no paint line is left; and what every session keeps, as a fact for proofs.
     pub fn is_painted(&self) -> bool
         ensures value { IsTrue result ↔ (length self.now.lines ≤ self.now.place) }
         ensures kept { IsSession self.now.lines self.now.place self.now.desk self.now.clients self.now.ends (B.provider self.now.bay).count }
