@@ -1,6 +1,7 @@
 // A provider that tells nothing, as sockets do.
 ghost use Rattle.std.specs.Prelude.{◌≡◌, ◌+◌, ◌<◌, ◌^◌, false, None, length, slice_get};
 ghost use Rattle.link_bay.specs.Counted.{mute_connection};
+ghost use Rattle.link_bay.specs.Provider.{IsFresh};
 
 use crate::bay::{Accept, Bay, Gave, Wrote};
 use crate::counters::Counters;
@@ -19,7 +20,12 @@ pub struct MuteBay {
 }
 
 impl MuteBay {
-    pub fn new(alloc: Global, room: u32, quota: u32) -> MuteBay {
+    /// Nobody was handed out yet, and `room` clients may be.
+    pub fn new(alloc: Global, room: u32, quota: u32) -> MuteBay
+        ensures fresh { IsFresh (record { count = length result.clients.items; asked = None; room = result.room; faults = 0; lulls = result.lulls }) }
+        ensures room { result.room ≡ room }
+        ensures quota { result.quota ≡ quota }
+    {
         MuteBay {
             clients: Vec::new(alloc),
             room,
