@@ -1,3 +1,11 @@
 pub mod Marks
-pub mod Texts
 pub mod Slots
+pub mod Texts
+pub mod Ended
+pub mod Hearings
+pub mod Heard
+pub mod Sendings
+pub mod Lives
+pub mod Writings
+pub mod Taking
+pub mod Lessening

@@ -1,18 +1,16 @@
 -- Each place of a list of connections is changed in turn, as contracts see it.
-use Rattle.std.proofs.Common.{◌≡◌, ℕ, zero, suc, ◌+◌, ◌<◌, ◌≤◌, List, [], ◌∷◌, ◌++◌, length, get_or, Option, take, drop, ap, ◌∙◌, arith, map, set}
+use Rattle.std.proofs.Common.{◌≡◌, ℕ, zero, suc, ◌+◌, ◌<◌, List, [], ◌∷◌, ◌++◌, length, get_or, Option, take, drop, ap, ◌∙◌, arith, map, set}
 use Rattle.std.specs.Option.{option_map}
 use Rattle.std.proofs.Math.Seq.{map-set_same}
 use Rattle.std.proofs.lemmas.List.{map-set, length-map}
 use Rattle.std.proofs.lemmas.List.Edits.{map_over_more}
 use Rattle.session_core.specs.Clients.{ClientSeen, plain, plain_clients}
-use Rattle.session_core.specs.declared.packet.Packet.{Packet}
-use Rattle.session_core.specs.Clients.{front_size}
 
 -- what is kept of one connection was replaced
 pub plain_clients-set : (clients : List (Option ClientSeen)) (k : ℕ) (slot : Option ClientSeen) → plain_clients (set clients k slot) ≡ set (plain_clients clients) k (option_map plain slot)
 plain_clients-set clients k slot = map-set (option_map plain) clients k slot
 
-get_or-plain : (clients : List (Option ClientSeen)) (k : ℕ) (slot : Option ClientSeen) → k < length clients → slot ≡ get_or clients k slot
+pub get_or-plain : (clients : List (Option ClientSeen)) (k : ℕ) (slot : Option ClientSeen) → k < length clients → slot ≡ get_or clients k slot
     → option_map plain slot ≡ get_or (plain_clients clients) k (option_map plain slot)
 get_or-plain [] k slot within is = absurd (omega arith)
 get_or-plain (c ∷ clients) zero slot within is = ap (option_map plain) is
@@ -27,11 +25,6 @@ changed_more f old now i slot slot' within sized so_far here change =
     plain_clients-set now i slot' ∙ ap (set (plain_clients now) i) change
     ∙ map_over_more f (plain_clients old) (plain_clients now) i (option_map plain slot) (omega (arith, length-map old (option_map plain))) so_far
     (get_or-plain now i slot (omega arith) here)
-
--- a packet at the end leaves the first one
-pub front_size-push : (packets : List Packet) (p : Packet) (taken : ℕ) → taken ≤ front_size packets → taken ≤ front_size (packets ++ p ∷ [])
-front_size-push [] p taken part = omega arith
-front_size-push (q ∷ packets) p taken part = part
 
 -- a connection was replaced by one that looks the same
 pub replaced_same : (clients : List (Option ClientSeen)) (k : ℕ) (slot d : Option ClientSeen) → option_map plain slot ≡ option_map plain (get_or clients k d)

@@ -1,5 +1,5 @@
 -- What a session keeps of a connection that is open, and how steps change it.
-use Rattle.std.specs.Prelude.{ℕ, ◌+◌, ◌≤◌, ◌≡◌, ◌==◌, Bool, true, false, if◌then◌else◌, nat_lt, Option, Some, None, List, [], ◌∷◌, ◌++◌, length, map, drop, slice_set}
+use Rattle.std.specs.Prelude.{ℕ, ◌+◌, ◌≤◌, ◌<◌, ◌≡◌, ◌==◌, ◌-◌, Bool, true, false, if◌then◌else◌, nat_lt, Option, Some, None, List, [], ◌∷◌, ◌++◌, length, map, drop, slice_set, All}
 use Rattle.std.specs.Option.{option_map}
 use Rattle.xp_base.specs.Points.{Rectangle, whole}
 use Rattle.xp_base.specs.declared.coding.Coding.TheVariants.{Exact}
@@ -9,7 +9,7 @@ use Rattle.session_core.specs.declared.source.Source.{Source}
 use Rattle.session_core.specs.declared.packet.Packet.{Packet}
 use Rattle.session_core.specs.declared.packet.Announcement.{Announcement}
 use Rattle.session_core.specs.PointSets.{whole_set, with_rectangle}
-use Rattle.session_core.specs.Wire.{new_window, draw}
+use Rattle.session_core.specs.Wire.{server_hello, geometry_of, new_window, draw}
 
 -- whether its hello was accepted, how many maps were read, the bytes read that are no whole packet yet, its sources in the desktop's order,
 -- the packets that wait in order, how many bytes of the first were taken;
@@ -68,6 +68,16 @@ damaged wid r c = record c { sources = map (damaged_source wid r) c.sources }
 abbrev pub mapped_source : ℕ → Source → Source
 mapped_source wid s = if s.wid == wid then record s { mapped = true } else s
 
+-- a client whose hello was accepted: the server's hello and each window from bottom to top wait, and each
+-- window has its source
+abbrev pub attached : List Window → ClientSeen → ClientSeen
+attached desk c = record c {
+  greeted = true;
+  sources = map (λ w. fresh_source (geometry_of w)) desk;
+  packets = structure_packet server_hello ∷ map (λ w. structure_packet (new_window (geometry_of w))) desk;
+  taken = 0;
+}
+
 -- how many bytes the first packet has
 abbrev pub front_size : List Packet → ℕ
 front_size [] = 0
@@ -82,9 +92,27 @@ front_rest (p ∷ packets) taken = drop taken p.bytes
 abbrev pub taken_more : ℕ → ClientSeen → ClientSeen
 taken_more n c = if nat_lt (c.taken + n) (front_size c.packets) then record c { taken = c.taken + n } else record c { packets = drop 1 c.packets; taken = 0 }
 
--- no more of the first packet was taken than it has
-abbrev pub IsPart : List Packet → ℕ → Type 0
-IsPart packets taken = taken ≤ front_size packets
+-- less than all of the first packet was taken, and nothing where none waits
+abbrev pub IsTaken : List Packet → ℕ → Type 0
+IsTaken [] taken = taken ≡ 0
+IsTaken (p ∷ packets) taken = taken < length p.bytes
+
+-- what is kept of every connection that is open: no packet is empty, and before its hello was accepted it has
+-- no source and no packet
+pub record IsClient (greeted : Bool) (maps : ℕ) (sources : List Source) (packets : List Packet) (taken : ℕ) : Type 0 where
+  pub part : IsTaken packets taken
+  pub filled : All (λ p. 0 < length p.bytes) packets
+  pub counted : maps ≤ 1000
+  pub unattached : greeted ≡ false → sources ≡ []
+  pub unspoken : greeted ≡ false → packets ≡ []
+
+-- how many bytes wait to be written
+abbrev pub size_of : List Packet → ℕ
+size_of [] = 0
+size_of (p ∷ packets) = length p.bytes + size_of packets
+
+abbrev pub waiting : ClientSeen → ℕ
+waiting c = size_of c.packets - c.taken
 
 -- the exact draw of a whole window, which repairs what was pending
 abbrev pub window_draw : Window → Source → Packet

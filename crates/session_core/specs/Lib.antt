@@ -1,6 +1,11 @@
 pub mod PointSets
 pub mod Wire
 pub mod Clients
+pub mod Hearing
+pub mod Reading
+pub mod Sending
+pub mod Capturing
 pub mod State
+pub mod Ends
 pub mod Steps
 pub mod Owed

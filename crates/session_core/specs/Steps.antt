@@ -1,11 +1,11 @@
 -- What each step of a session may answer, and what it leaves.
-use Rattle.std.specs.Prelude.{ℕ, ◌+◌, ◌<◌, ◌≤◌, ◌≡◌, ◌==◌, Bool, true, false, Some, None, List, [], ◌∷◌, ◌++◌, length, map, MatchOption, slice_get, slice_set, position, take}
+use Rattle.std.specs.Prelude.{ℕ, ◌+◌, ◌<◌, ◌≤◌, ◌≡◌, Bool, Option, Some, None, List, [], ◌∷◌, ◌++◌, map, MatchOption, slice_get, slice_set}
 use Rattle.std.specs.Option.{option_map}
-use Rattle.xp_base.specs.Counts.{Rose}
-use Rattle.xp_base.specs.Told.{told_append}
-use Rattle.window_model.specs.Desktop.{Window}
+use Rattle.window_model.specs.Desktop.{Window, find_window}
 use Rattle.link_bay.specs.Connections.{ConnectionRecord}
 use Rattle.link_bay.specs.Provider.{ProviderRecord}
+use Rattle.link_bay.specs.Answers.{AcceptGives}
+use Rattle.link_bay.specs.declared.bay.Accept.TheVariants as L
 use Rattle.paint_script.specs.declared.paint.Paint.{Paint}
 use Rattle.paint_script.specs.declared.paint.Paint.TheVariants.{Open, Fill}
 use Rattle.paint_script.specs.Painting.{painted, rectangle}
@@ -19,11 +19,12 @@ use Rattle.session_core.specs.declared.answers.Captured.{Captured}
 use Rattle.session_core.specs.declared.answers.Captured.TheVariants as C
 use Rattle.session_core.specs.declared.answers.Sent.{Sent}
 use Rattle.session_core.specs.declared.answers.Sent.TheVariants as S
-use Rattle.session_core.specs.declared.source.Source.{Source}
 use Rattle.session_core.specs.declared.ends.End.{End}
 use Rattle.session_core.specs.declared.ends.End.TheVariants as end
-use Rattle.session_core.specs.PointSets.{HasNone}
-use Rattle.session_core.specs.Clients.{ClientSeen, fresh_client, announced, damaged, captured, taken_more, front_rest}
+use Rattle.session_core.specs.Clients.{ClientSeen, fresh_client, announced, damaged}
+use Rattle.session_core.specs.Reading.{Reads, EndsReading}
+use Rattle.session_core.specs.Sending.{Writes, Fails}
+use Rattle.session_core.specs.Capturing.{CapturesWindow}
 use Rattle.session_core.specs.State.{Seen, capacity, open_count, open_client}
 
 -- what a paint line does for each connection that is open
@@ -42,18 +43,33 @@ Paints old P.Finished new = (slice_get old.lines old.place ≡ None) × (new ≡
 Paints old P.NoMemory new = new ≡ old
 
 -- an accept: full exactly where as many are open as may be; then the provider is not asked
-abbrev pub Accepts : {B : Type 0} → (B → ProviderRecord) → Bool → Seen B → Accepted → Seen B → Type 0
-Accepts provider tells old A.Full new = (capacity ≤ open_count old.clients) × (new ≡ old)
-Accepts provider tells old (A.Conn c) new = (open_count old.clients < capacity) × (c.0 ≡ length old.clients)
+abbrev pub Accepts : {B : Type 0} → (B → ProviderRecord) → (B → ℕ → ConnectionRecord) → Bool → Seen B → Accepted → Seen B → Type 0
+Accepts provider connection tells old A.Full new = (capacity ≤ open_count old.clients) × (new ≡ old)
+Accepts provider connection tells old (A.Conn c) new = (open_count old.clients < capacity)
+    × AcceptGives tells (provider old.bay) (provider new.bay) (connection new.bay) (L.Conn c)
     × (new ≡ record old { clients = old.clients ++ Some fresh_client ∷ []; ends = old.ends ++ end.Unended ∷ []; bay = new.bay })
-    × ((provider new.bay).faults ≡ (provider old.bay).faults)
-Accepts provider tells old A.Nobody new = (open_count old.clients < capacity)
-    × Rose (provider old.bay).lulls (provider new.bay).lulls × (tells ≡ true → (provider old.bay).room ≡ 0)
-    × ((provider new.bay).faults ≡ (provider old.bay).faults) × (new ≡ record old { bay = new.bay })
-Accepts provider tells old A.Failed new = (open_count old.clients < capacity)
-    × Rose (provider old.bay).faults (provider new.bay).faults × (new ≡ record old { bay = new.bay })
-Accepts provider tells old A.NoMemory new = (open_count old.clients < capacity) × (new ≡ record old { bay = new.bay })
-    × (provider new.bay ≡ provider old.bay)
+Accepts provider connection tells old A.Nobody new = (open_count old.clients < capacity)
+    × AcceptGives tells (provider old.bay) (provider new.bay) (connection new.bay) L.Nobody × (new ≡ record old { bay = new.bay })
+Accepts provider connection tells old A.Failed new = (open_count old.clients < capacity)
+    × AcceptGives tells (provider old.bay) (provider new.bay) (connection new.bay) L.Failed × (new ≡ record old { bay = new.bay })
+Accepts provider connection tells old A.NoMemory new = (open_count old.clients < capacity)
+    × AcceptGives tells (provider old.bay) (provider new.bay) (connection new.bay) L.NoMemory × (new ≡ record old { bay = new.bay })
+
+-- with which end an answer drops a connection
+abbrev pub receive_ends : Received → Option End
+receive_ends R.Closed = None
+receive_ends (R.Took n) = None
+receive_ends R.Again = None
+receive_ends (R.Ended ended) = Some ended
+receive_ends R.NoMemory = Some end.Short
+
+abbrev pub send_ends : Sent → Option End
+send_ends S.Closed = None
+send_ends S.Idle = None
+send_ends (S.Took n) = None
+send_ends S.Again = None
+send_ends (S.Ended ended) = Some ended
+send_ends S.NoMemory = None
 
 -- the session with connection k ended so
 abbrev pub with_end : {B : Type 0} → ℕ → End → B → Seen B → Seen B
@@ -63,46 +79,41 @@ with_end k ended bay s = record s { clients = slice_set s.clients k None; ends =
 abbrev pub with_client : {B : Type 0} → ℕ → ClientSeen → B → Seen B → Seen B
 with_client k c bay s = record s { clients = slice_set s.clients k (Some c); bay = bay }
 
--- a read from a connection that is open
-abbrev pub ReceivesOne : {B : Type 0} → ℕ → ConnectionRecord → ConnectionRecord → Seen B → Received → Seen B → Type 0
-ReceivesOne k was now old R.Closed new = ⊥
-ReceivesOne k was now old (R.Took n) new = (bytes : List ℕ) × (length bytes ≡ n) × (1 ≤ n) × (n ≤ 4096)
-    × (now ≡ record was { given = told_append was.given bytes }) × (c : ClientSeen) × (new ≡ with_client k c new.bay old)
-ReceivesOne k was now old R.Again new = Rose was.waits now.waits × (new ≡ record old { bay = new.bay })
-ReceivesOne k was now old (R.Ended ended) new = (ended ≡ end.Unbuilt) × (new ≡ with_end k ended new.bay old)
-ReceivesOne k was now old R.NoMemory new = new ≡ with_end k end.Short new.bay old
+-- a read from a connection that is open: where it ends the connection, why; else the client is as it is now
+abbrev pub ReceivesOne : {B : Type 0} → ℕ → ConnectionRecord → ConnectionRecord → Seen B → ClientSeen → Received → Seen B → Type 0
+ReceivesOne k was now old c answer new = MatchOption (receive_ends answer)
+    ((c' : ClientSeen) × Reads was now old.lines old.desk c answer c' × (new ≡ with_client k c' new.bay old))
+    (λ ended. EndsReading was now old.lines old.desk c answer × (new ≡ with_end k ended new.bay old))
 
 -- a read: closed exactly where the connection is not open
 abbrev pub Receives : {B : Type 0} → (B → ℕ → ConnectionRecord) → ℕ → Seen B → Received → Seen B → Type 0
 Receives connection k old answer new = MatchOption (open_client old.clients k) ((answer ≡ R.Closed) × (new ≡ old))
-    (λ c. ReceivesOne k (connection old.bay k) (connection new.bay k) old answer new)
+    (λ c. ReceivesOne k (connection old.bay k) (connection new.bay k) old c answer new)
 
--- a capture for a connection that is open, of a window of the desktop
-abbrev pub CapturesOne : Window → ClientSeen → Captured → ClientSeen → Type 0
-CapturesOne window c C.Closed c' = (position (λ s. s.wid == window.wid) c.sources ≡ None) × (c' ≡ c)
-CapturesOne window c C.Unmapped c' = (place : ℕ) × (s : Source) × (position (λ s. s.wid == window.wid) c.sources ≡ Some place) × (slice_get c.sources place ≡ Some s)
-    × (s.mapped ≡ false) × (c' ≡ c)
-CapturesOne window c C.Clean c' = (place : ℕ) × (s : Source) × (position (λ s. s.wid == window.wid) c.sources ≡ Some place) × (slice_get c.sources place ≡ Some s)
-    × (s.mapped ≡ true) × HasNone s.pending × (c' ≡ c)
-CapturesOne window c (C.Early moment) c' = ⊥
-CapturesOne window c (C.Congested load) c' = ⊥
-CapturesOne window c (C.Heavy weight) c' = ⊥
-CapturesOne window c C.Spent c' = (place : ℕ) × (s : Source) × (position (λ s. s.wid == window.wid) c.sources ≡ Some place) × (slice_get c.sources place ≡ Some s)
-    × (s.mapped ≡ true) × (HasNone s.pending → ⊥) × (4611686018427387904 ≤ s.next_sequence) × (c' ≡ c)
-CapturesOne window c C.NoMemory c' = c' ≡ c
-CapturesOne window c (C.Jobs n) c' = (place : ℕ) × (s : Source) × (position (λ s. s.wid == window.wid) c.sources ≡ Some place) × (slice_get c.sources place ≡ Some s)
-    × (s.mapped ≡ true) × (HasNone s.pending → ⊥) × (s.next_sequence < 4611686018427387904) × (n ≡ 1) × (c' ≡ captured window place s c)
+-- a capture for a connection that is open: closed where the desktop has no such window, too
+abbrev pub CapturesOne : List Window → ℕ → ClientSeen → Captured → ClientSeen → Type 0
+CapturesOne desk wid c answer c' = MatchOption (find_window desk wid) ((answer ≡ C.Closed) × (c' ≡ c)) (λ window. CapturesWindow window c answer c')
 
--- a write of what is left of the first packet of a connection that is open
-abbrev pub SendsOne : {B : Type 0} → ℕ → ℕ → ConnectionRecord → ConnectionRecord → ClientSeen → Seen B → Sent → Seen B → Type 0
-SendsOne k most was now c old S.Closed new = ⊥
-SendsOne k most was now c old S.Idle new = (c.packets ≡ []) × (new ≡ old)
-SendsOne k most was now c old (S.Took n) new = (1 ≤ n) × (n ≤ most) × (n ≤ length (front_rest c.packets c.taken))
-    × (now.sent ≡ told_append was.sent (take n (front_rest c.packets c.taken))) × (new ≡ with_client k (taken_more n c) new.bay old)
-SendsOne k most was now c old S.Again new = Rose was.dry now.dry × (now.sent ≡ told_append was.sent []) × (new ≡ record old { bay = new.bay })
-SendsOne k most was now c old (S.Ended ended) new = (ended ≡ end.Unbuilt) × Rose was.faults now.faults × (new ≡ with_end k ended new.bay old)
-SendsOne k most was now c old S.NoMemory new = (now ≡ was) × (new ≡ record old { bay = new.bay })
+-- a capture: closed where the connection is not open, too; nothing but the client changes
+abbrev pub Captures : {B : Type 0} → ℕ → ℕ → Seen B → Captured → Seen B → Type 0
+Captures k wid old answer new = MatchOption (open_client old.clients k) ((answer ≡ C.Closed) × (new ≡ old))
+    (λ c. (c' : ClientSeen) × CapturesOne old.desk wid c answer c' × (new ≡ with_client k c' old.bay old))
 
+-- a write to a connection that is open: where it fails the connection has ended, else the client is as it is now
+abbrev pub SendsOne : {B : Type 0} → ℕ → ℕ → ConnectionRecord → ConnectionRecord → Seen B → ClientSeen → Sent → Seen B → Type 0
+SendsOne k most was now old c answer new = MatchOption (send_ends answer)
+    ((c' : ClientSeen) × Writes most was now c answer c' × (new ≡ with_client k c' new.bay old))
+    (λ ended. Fails most was now c × (ended ≡ end.Unbuilt) × (new ≡ with_end k ended new.bay old))
+
+-- a write: closed exactly where the connection is not open
 abbrev pub Sends : {B : Type 0} → (B → ℕ → ConnectionRecord) → ℕ → ℕ → Seen B → Sent → Seen B → Type 0
 Sends connection k most old answer new = MatchOption (open_client old.clients k) ((answer ≡ S.Closed) × (new ≡ old))
-    (λ c. SendsOne k most (connection old.bay k) (connection new.bay k) c old answer new)
+    (λ c. SendsOne k most (connection old.bay k) (connection new.bay k) old c answer new)
+
+-- the end that an accept puts at the end of the list
+abbrev pub accepted_ends : Accepted → List End
+accepted_ends A.Full = []
+accepted_ends (A.Conn c) = end.Unended ∷ []
+accepted_ends A.Nobody = []
+accepted_ends A.Failed = []
+accepted_ends A.NoMemory = []

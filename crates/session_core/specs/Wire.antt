@@ -18,6 +18,10 @@ packet content = header 0 (length content) ++ content
 abbrev pub server_hello : List ℕ
 server_hello = packet (codes "l5:hellod7:bencodei1e9:encodingsl5:rgb32e3:lz4i0e7:rencodei0e7:version1:1ee")
 
+-- an exact client's hello
+abbrev pub exact_hello : List ℕ
+exact_hello = packet (codes "l5:hellod9:encodingsl5:rgb32eee")
+
 -- a window's number, place and size
 abbrev pub geometry_of : Window → Geometry
 geometry_of window = record { wid = window.wid; x = window.x; y = window.y; w = window.w; h = window.h }

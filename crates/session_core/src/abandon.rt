@@ -1,5 +1,6 @@
 // A session is given up.
 ghost use Rattle.std.specs.Prelude.{◌≡◌, length};
+ghost use Rattle.link_bay.specs.Connections.{AllStay};
 
 use crate::client::Client;
 use crate::ends::End;
@@ -19,6 +20,7 @@ impl<B: Bay + Drop> Session<B> {
     pub fn abandon(self) -> Abandoned<B>
         ensures ends { result.ends.items ≡ self.ends }
         ensures provider { B.provider result.bay ≡ B.provider self.bay }
+        ensures connections { AllStay (B.connection self.bay) (B.connection result.bay) }
         ensures counted { length result.ends.items ≡ (B.provider result.bay).count }
     {
         let Session {
@@ -38,7 +40,8 @@ impl<B: Bay + Drop> Session<B> {
 /// Closes each connection that is open.
 fn close_all<B: Bay + Drop>(bay: &mut B, clients: &[Option<Client>])
     requires { length clients.now ≡ (B.provider bay.old).count }
-    ensures { B.provider bay.new ≡ B.provider bay.old }
+    ensures provider { B.provider bay.new ≡ B.provider bay.old }
+    ensures connections { AllStay (B.connection bay.old) (B.connection bay.new) }
 {
     for k in 0..clients.len() {
         if clients[k].is_some() {

@@ -1,5 +1,5 @@
 // Connections come.
-ghost use Rattle.std.specs.Prelude.{◌≡◌, ◌≤◌};
+ghost use Rattle.std.specs.Prelude.{◌≡◌, ◌≤◌, ◌++◌};
 ghost use Rattle.link_bay.specs.Connections.{OthersStay};
 ghost use Rattle.session_core.specs.State.{open_count};
 
@@ -14,15 +14,16 @@ const CAPACITY: usize = 1;
 
 impl<B: Bay + Drop> Session<B> {
     ghost use Rattle.session_core.specs.State.{KeepsWindows};
-    ghost use Rattle.session_core.specs.Steps.{Accepts};
+    ghost use Rattle.session_core.specs.Steps.{Accepts, accepted_ends};
 
     /// Accepts a connection, where fewer are open than may be. What may fail for memory is done
     /// before the provider is asked.
     pub fn accept(&mut self) -> Accepted
-        ensures answer { Accepts B.provider B.tells self.old result self.new }
+        ensures answer { Accepts B.provider B.connection B.tells self.old result self.new }
         ensures windows { KeepsWindows self.old self.new }
         ensures faults { (B.provider self.old.bay).faults ≤ (B.provider self.new.bay).faults }
         ensures lulls { (B.provider self.old.bay).lulls ≤ (B.provider self.new.bay).lulls }
+        ensures ends { self.new.ends ≡ self.old.ends ++ accepted_ends result }
         ensures others { OthersStay (B.connection self.old.bay) (B.connection self.new.bay) (B.provider self.old.bay).count }
     {
         if count_some(&self.clients) >= CAPACITY {

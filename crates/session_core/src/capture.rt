@@ -1,5 +1,9 @@
 // Captures.
-ghost use Rattle.std.specs.Prelude.{◌≡◌, ◌<◌, length};
+ghost use Rattle.std.specs.Prelude.{◌≡◌, ◌<◌, ◌^◌, OnOk, OnErr, length, slice_index_or};
+ghost use Rattle.std.specs.Option.{option_map, is_some};
+ghost use Rattle.session_core.specs.Clients.{plain};
+ghost use Rattle.session_core.specs.declared.source.Source.{Source};
+ghost use Rattle.session_core.specs.Capturing.{CapturesSlot};
 
 use crate::answers::Captured;
 use crate::client::{Client, source_place};
@@ -18,13 +22,15 @@ use xp_base::{Bytes, Coding, Conn, NoMemory, Rect, Wid};
 const SEQUENCE_END: u64 = 1 << 62;
 
 impl<B: Bay + Drop> Session<B> {
+    ghost use Rattle.session_core.specs.State.{KeepsWindows};
+    ghost use Rattle.session_core.specs.Steps.{Captures};
+
     /// Draws the whole window for the client, where something of it is pending.
     pub fn capture(&mut self, c: Conn, wid: Wid) -> Captured
-        ensures bay { self.new.bay ≡ self.old.bay }
-        ensures desk { self.new.desk ≡ self.old.desk }
-        ensures lines { self.new.lines ≡ self.old.lines }
-        ensures place { self.new.place ≡ self.old.place }
+        ensures answer { Captures c.0 wid self.old result self.new }
+        ensures windows { KeepsWindows self.old self.new }
         ensures ends { self.new.ends ≡ self.old.ends }
+        ensures bay { self.new.bay ≡ self.old.bay }
     {
         let k = c.0 as usize;
         if !is_open(&self.clients, k) {
@@ -38,7 +44,10 @@ impl<B: Bay + Drop> Session<B> {
     }
 }
 
-fn capture_slot(slot: &mut Option<Client>, alloc: Global, window: &Win) -> Captured {
+fn capture_slot(slot: &mut Option<Client>, alloc: Global, window: &Win) -> Captured
+    ensures kept { is_some slot.new ≡ is_some slot.old }
+    ensures answer { CapturesSlot window.now (option_map plain slot.old) result (option_map plain slot.new) }
+{
     match slot {
         Some(client) => client.capture(alloc, window),
         None => Captured::Closed,
@@ -46,7 +55,12 @@ fn capture_slot(slot: &mut Option<Client>, alloc: Global, window: &Win) -> Captu
 }
 
 impl Client {
-    fn capture(&mut self, alloc: Global, window: &Win) -> Captured {
+    ghost use Rattle.session_core.specs.Clients.{captured};
+    ghost use Rattle.session_core.specs.Capturing.{CapturesWindow};
+
+    fn capture(&mut self, alloc: Global, window: &Win) -> Captured
+        ensures { CapturesWindow window.now (plain self.old) result (plain self.new) }
+    {
         let Some(place) = source_place(&self.sources, window.wid) else {
             return Captured::Closed;
         };
@@ -68,7 +82,10 @@ impl Client {
 
     /// Queues a draw of the whole window, which repairs what was pending.
     fn draw(&mut self, alloc: Global, window: &Win, place: usize) -> Result<(), NoMemory>
-        requires { place < length self.old.sources }
+        requires place { place < length self.old.sources }
+        requires bounded { (s : Source) → s ≡ slice_index_or self.old.sources place s → s.next_sequence < 2 ^ 62 }
+        ensures ok { OnOk result ((s : Source) → s ≡ slice_index_or self.old.sources place s → plain self.new ≡ captured window.now place s (plain self.old)) }
+        ensures err { OnErr result (plain self.new ≡ plain self.old) }
     {
         let _area = window.area();
         let sequence = self.sources[place].next_sequence;
@@ -77,7 +94,7 @@ impl Client {
         self.packets.reserve(1)?;
         let source = &mut self.sources[place];
         let relief = mem::replace(&mut source.pending, none);
-        source.next_sequence = sequence.saturating_add(1);
+        source.next_sequence = sequence + 1;
         let draw = Draw {
             wid: window.wid,
             sequence,

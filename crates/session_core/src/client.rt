@@ -25,7 +25,7 @@ pub struct Client {
 
 impl Model for Client {
     ghost use Rattle.std.specs.Prelude.{◌-◌, min, vec_capacity, vec_len};
-    ghost use Rattle.session_core.specs.Clients.{ClientSeen, IsPart};
+    ghost use Rattle.session_core.specs.Clients.{ClientSeen, IsClient};
 
     ghost Value = { ClientSeen };
 
@@ -40,7 +40,7 @@ impl Model for Client {
       next = c.next;
     } };
 
-    ghost invariant = { λ c. IsPart c.packets.items c.taken };
+    ghost invariant = { λ c. IsClient c.greeted c.maps c.sources.items c.packets.items c.taken };
 }
 
 impl Client {

@@ -22,6 +22,7 @@ impl<B: Bay + Drop> Session<B> {
     ghost use Rattle.session_core.specs.Steps.{Paints};
 
     /// Applies the next paint line to the desktop, and tells each client that is attached.
+    #[tactic(auto, using(crate::proofs::Lives::live_changed, crate::proofs::Lives::live_same, crate::proofs::Lives::length_changed, crate::proofs::Lives::length_same))]
     pub fn paint(&mut self) -> Painted
         ensures answer { Paints self.old result self.new }
         ensures bay { self.new.bay ≡ self.old.bay }
@@ -31,11 +32,13 @@ impl<B: Bay + Drop> Session<B> {
         let Some(line) = self.paints.line(self.place) else {
             return Painted::Finished;
         };
-        if apply(self.alloc, &mut self.desk, &mut self.clients, line).is_err() {
-            return Painted::NoMemory;
+        match apply(self.alloc, &mut self.desk, &mut self.clients, line) {
+            Ok(()) => {
+                self.place += 1;
+                Painted::Done
+            }
+            Err(NoMemory) => Painted::NoMemory,
         }
-        self.place += 1;
-        Painted::Done
     }
 }
 

@@ -1,7 +1,10 @@
 // Reads.
-ghost use Rattle.std.specs.Prelude.{◌≡◌, ◌<◌, ◌↔◌, IsTrue, IsSome, IsNone, length};
+ghost use Rattle.std.specs.Prelude.{◌≡◌, ◌≤◌, ◌<◌, ◌↔◌, ℕ, false, IsTrue, IsSome, IsNone, IfSome, OnOk, Err, length};
+ghost use Rattle.std.specs.Option.{option_map, is_some};
 ghost use Rattle.link_bay.specs.Connections.{OthersStay, AllStay};
-ghost use Rattle.session_core.specs.State.{open_client};
+ghost use Rattle.session_core.specs.State.{open_client, is_unended};
+ghost use Rattle.session_core.specs.Clients.{plain};
+ghost use Rattle.session_core.specs.Hearing.{HearsSlot, IsUnbuilt};
 
 use crate::answers::Received;
 use crate::client::Client;
@@ -17,13 +20,16 @@ use xp_base::Conn;
 const READ_LIMIT: u32 = 4096;
 
 impl<B: Bay + Drop> Session<B> {
-    ghost use Rattle.session_core.specs.State.{KeepsWindows};
-    ghost use Rattle.session_core.specs.Steps.{with_end};
+    ghost use Rattle.session_core.specs.State.{KeepsWindows, ends_with};
+    ghost use Rattle.session_core.specs.Steps.{with_end, Receives, receive_ends};
 
     /// Reads once from the connection, and handles each packet that is then whole.
     pub fn receive(&mut self, c: Conn) -> Received
-        ensures closed { (result ≡ Received.Closed) ↔ IsNone (open_client self.old.clients c.0) }
+        ensures answer { Receives B.connection c.0 self.old result self.new }
         ensures windows { KeepsWindows self.old self.new }
+        ensures ends { self.new.ends ≡ ends_with (receive_ends result) c.0 self.old.ends }
+        ensures ended { IfSome (receive_ends result) (λ e. is_unended e ≡ false) }
+        ensures some { (n : ℕ) → result ≡ Received.Took n → 1 ≤ n }
         ensures others { OthersStay (B.connection self.old.bay) (B.connection self.new.bay) c.0 }
         ensures provider { B.provider self.new.bay ≡ B.provider self.old.bay }
     {
@@ -32,41 +38,58 @@ impl<B: Bay + Drop> Session<B> {
             return Received::Closed;
         }
         let mut bytes = Vec::new(self.alloc);
-        let trouble = match self.bay.read(c, &mut bytes, READ_LIMIT) {
+        match self.bay.read(c, &mut bytes, READ_LIMIT) {
             Gave::Bytes(count) => {
                 let slot = &mut self.clients[k];
-                match hear_slot(
+                let heard = hear_slot(
                     slot,
                     self.alloc,
                     bytes.as_slice(),
                     self.paints.as_slice(),
                     &self.desk,
-                ) {
-                    Ok(()) => return Received::Took(count),
-                    Err(trouble) => trouble,
+                );
+                match heard {
+                    Ok(()) => Received::Took(count),
+                    Err(trouble) => match trouble {
+                        Trouble::Unbuilt => self.end_unbuilt(c),
+                        Trouble::NoMemory => self.end_short(c),
+                    },
                 }
             }
-            Gave::Again => return Received::Again,
-            Gave::End | Gave::Failed => Trouble::Unbuilt,
-            Gave::NoMemory => Trouble::NoMemory,
-        };
-        match trouble {
-            Trouble::Unbuilt => {
-                self.drop_client(c, End::Unbuilt);
-                Received::Ended(End::Unbuilt)
-            }
-            Trouble::NoMemory => {
-                self.drop_client(c, End::Short);
-                Received::NoMemory
-            }
+            Gave::Again => Received::Again,
+            Gave::End => self.end_unbuilt(c),
+            Gave::Failed => self.end_unbuilt(c),
+            Gave::NoMemory => self.end_short(c),
         }
+    }
+
+    fn end_unbuilt(&mut self, c: Conn) -> Received
+        requires { c.0 < length self.old.clients }
+        ensures answer { result ≡ Received.Ended End.Unbuilt }
+        ensures session { self.new ≡ with_end c.0 End.Unbuilt self.new.bay self.old }
+        ensures connections { AllStay (B.connection self.old.bay) (B.connection self.new.bay) }
+        ensures provider { B.provider self.new.bay ≡ B.provider self.old.bay }
+    {
+        self.drop_client(c, End::Unbuilt);
+        Received::Ended(End::Unbuilt)
+    }
+
+    fn end_short(&mut self, c: Conn) -> Received
+        requires { c.0 < length self.old.clients }
+        ensures answer { result ≡ Received.NoMemory }
+        ensures session { self.new ≡ with_end c.0 End.Short self.new.bay self.old }
+        ensures connections { AllStay (B.connection self.old.bay) (B.connection self.new.bay) }
+        ensures provider { B.provider self.new.bay ≡ B.provider self.old.bay }
+    {
+        self.drop_client(c, End::Short);
+        Received::NoMemory
     }
 
     /// Ends the connection so: what is kept of it is dropped, and it is closed.
     pub(crate) fn drop_client(&mut self, c: Conn, end: End)
-        requires { c.0 < length self.old.clients }
+        requires within { c.0 < length self.old.clients }
+        requires ended { is_unended end ≡ false }
         ensures session { self.new ≡ with_end c.0 end self.new.bay self.old }
-        ensures windows { KeepsWindows self.old self.new }
         ensures connections { AllStay (B.connection self.old.bay) (B.connection self.new.bay) }
         ensures provider { B.provider self.new.bay ≡ B.provider self.old.bay }
     {
@@ -91,7 +114,9 @@ fn hear_slot(
     paints: &[Paint],
     desk: &Desk,
 ) -> Result<(), Trouble>
-    ensures { IsSome slot.old → IsSome slot.new }
+    ensures kept { is_some slot.new ≡ is_some slot.old }
+    ensures ok { OnOk result (HearsSlot paints.now desk.now (option_map plain slot.old) bytes.now (option_map plain slot.new)) }
+    ensures unbuilt { result ≡ Err Trouble.Unbuilt → IfSome (option_map plain slot.old) (λ c. IsUnbuilt paints.now desk.now c bytes.now) }
 {
     match slot {
         Some(client) => client.hear(alloc, bytes, paints, desk),

@@ -2,6 +2,7 @@
 ghost use Rattle.std.specs.Prelude.{◌≡◌, ◌≤◌, ◌<◌, ◌↔◌, [], IsTrue, IfOk, IfErr, length};
 ghost use Rattle.link_bay.specs.Provider.{IsFresh};
 ghost use Rattle.link_bay.specs.Answers.{OrderGives};
+ghost use Rattle.link_bay.specs.Connections.{AllStay};
 
 use crate::client::Client;
 use crate::ends::End;
@@ -71,6 +72,7 @@ impl<B: Bay + Drop> Session<B> {
     pub fn order(&mut self, order: &Order) -> Result<(), NoMemory>
         ensures session { self.new ≡ record self.old { bay = self.new.bay } }
         ensures answer { OrderGives (B.provider self.old.bay) (B.provider self.new.bay) order.now result }
+        ensures connections { AllStay (B.connection self.old.bay) (B.connection self.new.bay) }
     {
         self.bay.order(order)
     }

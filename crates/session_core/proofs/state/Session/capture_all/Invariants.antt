@@ -5,5 +5,6 @@ use Rattle.session_core.proofs.state.Session.capture_all.Given as goal
 abbrev pub invariant-loop-place : goal.invariant-loop-place
 invariant-loop-place g l = record {
   windows : KeepsWindows l.initial.self l.self;
-  provider : g.B.Bay.provider l.self.bay ≡ g.B.Bay.provider l.initial.self.bay;
+  ends : l.self.ends ≡ l.initial.self.ends;
+  bay : l.self.bay ≡ l.initial.self.bay;
 }

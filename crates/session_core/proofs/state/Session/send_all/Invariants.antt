@@ -1,9 +1,16 @@
 use Rattle.std.proofs.Common.{◌≡◌}
+use Rattle.link_bay.specs.Connections.{OthersStay}
 use Rattle.session_core.specs.State.{KeepsWindows}
+use Rattle.session_core.specs.Ends.{waiting_at}
 use Rattle.session_core.proofs.state.Session.send_all.Given as goal
 
-abbrev pub invariant-loop : goal.invariant-loop
-invariant-loop g l = record {
+abbrev pub invariant-writes : goal.invariant-writes
+invariant-writes g l = record {
   windows : KeepsWindows l.initial.self l.self;
+  ends : l.self.ends ≡ l.initial.self.ends;
+  others : OthersStay (g.B.Bay.connection l.initial.self.bay) (g.B.Bay.connection l.self.bay) l.c.0;
   provider : g.B.Bay.provider l.self.bay ≡ g.B.Bay.provider l.initial.self.bay;
 }
+
+abbrev pub decreases-writes : goal.decreases-writes
+decreases-writes g l = waiting_at l.self.clients l.c.0

@@ -1,10 +1,17 @@
-use Rattle.std.proofs.Common.{◌≤◌}
+use Rattle.std.proofs.Common.{◌≡◌, ◌≤◌}
 use Rattle.session_core.specs.State.{KeepsWindows}
+use Rattle.session_core.specs.Ends.{KeepsEnds, NoMoreShort, work}
 use Rattle.session_core.proofs.state.Session.settle_all.Given as goal
 
-abbrev pub invariant-loop : goal.invariant-loop
-invariant-loop g l = record {
+abbrev pub invariant-turns : goal.invariant-turns
+invariant-turns g l = record {
   windows : KeepsWindows l.initial.self l.self;
+  ends : KeepsEnds l.initial.self.ends l.self.ends;
+  short : NoMoreShort l.initial.self.ends l.self.ends;
+  asked : (g.B.Bay.provider l.self.bay).asked ≡ (g.B.Bay.provider l.initial.self.bay).asked;
   faults : (g.B.Bay.provider l.initial.self.bay).faults ≤ (g.B.Bay.provider l.self.bay).faults;
   lulls : (g.B.Bay.provider l.initial.self.bay).lulls ≤ (g.B.Bay.provider l.self.bay).lulls;
 }
+
+abbrev pub decreases-turns : goal.decreases-turns
+decreases-turns g l = work (g.B.Bay.provider l.self.bay).room l.self.ends

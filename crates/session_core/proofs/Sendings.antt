@@ -1,0 +1,95 @@
+-- What waits to be written, as packets are put at its end and bytes of the first are taken.
+use Rattle.std.proofs.Common.{◌≡◌, ◌≢◌, ℕ, zero, suc, ◌+◌, ◌-◌, ◌<◌, ◌≤◌, Bool, true, false, List, [], ◌∷◌, ◌++◌, length, drop, refl, ap, ◌∙◌, arith, map}
+use Rattle.std.specs.Prelude.{All}
+use Rattle.std.proofs.lemmas.Bool.Decides.{nat_tests}
+use Rattle.session_core.specs.declared.packet.Packet.{Packet}
+use Rattle.session_core.specs.declared.source.Source.{Source}
+use Rattle.window_model.specs.Desktop.{Window}
+use Rattle.session_core.specs.declared.geometry.Geometry.{Geometry}
+use Rattle.session_core.specs.Wire.{server_hello, new_window, geometry_of, draw}
+use Rattle.session_core.specs.Clients.{structure_packet, ClientSeen, IsTaken, IsClient, front_size, size_of, waiting, taken_more}
+
+-- a packet at the end leaves the first one
+pub taken_push : (packets : List Packet) (p : Packet) (taken : ℕ) → 0 < length p.bytes → IsTaken packets taken → IsTaken (packets ++ p ∷ []) taken
+taken_push [] p taken some part = omega (arith, some, part)
+taken_push (q ∷ packets) p taken some part = part
+
+pub filled_push : (packets : List Packet) (p : Packet) → 0 < length p.bytes → All (λ q. 0 < length q.bytes) packets → All (λ q. 0 < length q.bytes) (packets ++ p ∷ [])
+filled_push [] p some filled zero d within = some
+filled_push [] p some filled (suc k) d within = absurd (omega (arith, within))
+filled_push (q ∷ packets) p some filled zero d within = filled 0 d (omega arith)
+filled_push (q ∷ packets) p some filled (suc k) d within = filled_push packets p some (λ j e low. filled (suc j) e (omega arith)) k d (omega arith)
+
+-- behind the first packet nothing was taken yet
+pub taken_next : (packets : List Packet) → All (λ q. 0 < length q.bytes) packets → IsTaken (drop 1 packets) 0
+taken_next [] filled = refl
+taken_next (p ∷ []) filled = refl
+taken_next (p ∷ q ∷ packets) filled = filled 1 q (omega arith)
+
+pub filled_next : (packets : List Packet) → All (λ q. 0 < length q.bytes) packets → All (λ q. 0 < length q.bytes) (drop 1 packets)
+filled_next [] filled = filled
+filled_next (p ∷ packets) filled = λ k d low. filled (suc k) d (omega arith)
+
+-- so many bytes fewer wait once they were taken
+pub waiting_taken : (n : ℕ) (c : ClientSeen) → c.packets ≢ [] → c.taken + n ≤ front_size c.packets → waiting (taken_more n c) + n ≡ waiting c
+waiting_taken n c some within = plain_waiting c.packets c.taken some within
+  where
+    plain_waiting : (packets : List Packet) (taken : ℕ) → packets ≢ [] → taken + n ≤ front_size packets
+        → waiting (taken_more n (record c { packets = packets; taken = taken })) + n ≡ size_of packets - taken
+    plain_waiting [] taken some within = absurd (some refl)
+    plain_waiting (p ∷ packets) taken some within = grind (arith, nat_tests, within)
+
+-- a packet was put at the end
+pub client_push : {greeted : Bool} {maps : ℕ} {sources : List Source} {packets : List Packet} {taken : ℕ} (sources' : List Source) (packets' : List Packet) (p : Packet)
+    → IsClient greeted maps sources packets taken → greeted ≡ true → packets' ≡ packets ++ p ∷ [] → 0 < length p.bytes → IsClient greeted maps sources' packets' taken
+client_push {packets = packets} {taken = taken} sources' packets' p client attached is some = rw is (record {
+  part = taken_push packets p taken some client.part;
+  filled = filled_push packets p some client.filled;
+  counted = client.counted;
+  unattached = λ none. absurd (cc (none, attached));
+  unspoken = λ none. absurd (cc (none, attached));
+})
+
+-- a draw was put at the end, of a client that has a source
+pub client_drawn : {greeted : Bool} {maps : ℕ} {sources : List Source} {packets : List Packet} {taken : ℕ} (sources' : List Source) (packets' : List Packet) (p : Packet) (place : ℕ) (middle : List Packet)
+    → IsClient greeted maps sources packets taken → place < length sources → middle ≡ packets → packets' ≡ middle ++ p ∷ [] → 0 < length p.bytes → IsClient greeted maps sources' packets' taken
+client_drawn {greeted = true} sources' packets' p place middle client within same is some = client_push sources' packets' p client refl (is ∙ ap (λ ps. ps ++ p ∷ []) same) some
+client_drawn {greeted = false} sources' packets' p place middle client within same is some =
+    let none = ap length (client.unattached refl) in absurd (omega (arith, within, none))
+
+pub draw_some : (window : Window) (n : ℕ) → 0 < length (draw window n)
+draw_some window n = omega arith
+
+-- the first packet is gone
+pub client_next : {greeted : Bool} {maps : ℕ} {sources : List Source} {packets : List Packet} {taken : ℕ} (packets' : List Packet)
+    → IsClient greeted maps sources packets taken → packets' ≡ drop 1 packets → IsClient greeted maps sources packets' 0
+client_next {packets = packets} packets' client is = rw is (record {
+  part = taken_next packets client.filled;
+  filled = filled_next packets client.filled;
+  counted = client.counted;
+  unattached = client.unattached;
+  unspoken = λ none. ap (drop 1) (client.unspoken none);
+})
+
+pub new_window_some : (g : Geometry) → 0 < length (new_window g)
+new_window_some g = omega arith
+
+pub announced_some : (desk : List Window) → All (λ q. 0 < length q.bytes) (map (λ w. structure_packet (new_window (geometry_of w))) desk)
+announced_some [] k d within = absurd (omega (arith, within))
+announced_some (w ∷ desk) zero d within = new_window_some (geometry_of w)
+announced_some (w ∷ desk) (suc k) d within = announced_some desk k d (omega (arith, within))
+
+-- a client that was just attached
+pub client_attached : {greeted : Bool} {maps : ℕ} {sources : List Source} {packets : List Packet} {taken : ℕ} (desk : List Window) (sources' : List Source) (packets' : List Packet)
+    → IsClient greeted maps sources packets taken → packets' ≡ structure_packet server_hello ∷ map (λ w. structure_packet (new_window (geometry_of w))) desk → IsClient true maps sources' packets' 0
+client_attached desk sources' packets' client is = rw is (record {
+  part = omega arith;
+  filled = first;
+  counted = client.counted;
+  unattached = λ none. absurd (cc none);
+  unspoken = λ none. absurd (cc none);
+})
+  where
+    first : All (λ q. 0 < length q.bytes) (structure_packet server_hello ∷ map (λ w. structure_packet (new_window (geometry_of w))) desk)
+    first zero d within = omega arith
+    first (suc k) d within = announced_some desk k d (omega (arith, within))

@@ -1,0 +1,34 @@
+-- One read of at most 4,096 bytes from a connection that is open.
+use Rattle.std.specs.Prelude.{ℕ, ◌≡◌, ◌⊎◌, List, []}
+use Rattle.link_bay.specs.Connections.{ConnectionRecord}
+use Rattle.link_bay.specs.Answers.{ReadGives}
+use Rattle.link_bay.specs.declared.bay.Gave.{Gave}
+use Rattle.link_bay.specs.declared.bay.Gave.TheVariants as G
+use Rattle.window_model.specs.Desktop.{Window}
+use Rattle.paint_script.specs.declared.paint.Paint.{Paint}
+use Rattle.session_core.specs.declared.ends.End.TheVariants as end
+use Rattle.session_core.specs.declared.answers.Received.{Received}
+use Rattle.session_core.specs.declared.answers.Received.TheVariants as R
+use Rattle.session_core.specs.Clients.{ClientSeen}
+use Rattle.session_core.specs.Hearing.{Hears, IsUnbuilt}
+
+-- a read that does not end the connection: what the provider gave, and the client before and after
+abbrev pub Reads : ConnectionRecord → ConnectionRecord → List Paint → List Window → ClientSeen → Received → ClientSeen → Type 0
+Reads was now lines desk c R.Closed c' = ⊥
+Reads was now lines desk c (R.Took n) c' = (bytes : List ℕ) × ReadGives was now [] bytes 4096 (G.Bytes n) × Hears lines desk c bytes c'
+Reads was now lines desk c R.Again c' = ReadGives was now [] [] 4096 G.Again × (c' ≡ c)
+Reads was now lines desk c (R.Ended ended) c' = ⊥
+Reads was now lines desk c R.NoMemory c' = ⊥
+
+-- it read bytes that are of no form that is built
+abbrev pub ReadsUnbuilt : ConnectionRecord → ConnectionRecord → List Paint → List Window → ClientSeen → Type 0
+ReadsUnbuilt was now lines desk c = (bytes : List ℕ) × (n : ℕ) × ReadGives was now [] bytes 4096 (G.Bytes n) × IsUnbuilt lines desk c bytes
+
+-- a read that ends the connection: it met the end, it failed, or what it read is not built; or memory was wanting
+abbrev pub EndsReading : ConnectionRecord → ConnectionRecord → List Paint → List Window → ClientSeen → Received → Type 0
+EndsReading was now lines desk c R.Closed = ⊥
+EndsReading was now lines desk c (R.Took n) = ⊥
+EndsReading was now lines desk c R.Again = ⊥
+EndsReading was now lines desk c (R.Ended ended) = (ended ≡ end.Unbuilt)
+    × (ReadGives was now [] [] 4096 G.End ⊎ ReadGives was now [] [] 4096 G.Failed ⊎ ReadsUnbuilt was now lines desk c)
+EndsReading was now lines desk c R.NoMemory = (bytes : List ℕ) × (gave : Gave) × ReadGives was now [] bytes 4096 gave

@@ -1,0 +1,34 @@
+-- A write to a connection that is open: what of the first packet is left, or as much of it as may be offered.
+use Rattle.std.specs.Prelude.{ℕ, ◌≤◌, ◌≡◌, ◌≢◌, Option, Some, None, List, [], take}
+use Rattle.link_bay.specs.Connections.{ConnectionRecord}
+use Rattle.link_bay.specs.Answers.{WriteGives}
+use Rattle.link_bay.specs.declared.bay.Wrote.TheVariants as W
+use Rattle.session_core.specs.declared.answers.Sent.{Sent}
+use Rattle.session_core.specs.declared.answers.Sent.TheVariants as S
+use Rattle.session_core.specs.Clients.{ClientSeen, taken_more, front_rest}
+
+-- what is offered, of at most so many bytes
+abbrev pub offered : ℕ → ClientSeen → List ℕ
+offered most c = take most (front_rest c.packets c.taken)
+
+-- a write that did not fail: the connection before and after, and the client before and after
+abbrev pub Writes : ℕ → ConnectionRecord → ConnectionRecord → ClientSeen → Sent → ClientSeen → Type 0
+Writes most was now c S.Closed c' = ⊥
+Writes most was now c S.Idle c' = (c.packets ≡ []) × (now ≡ was) × (c' ≡ c)
+Writes most was now c (S.Took n) c' = (1 ≤ n) × (c.packets ≢ []) × WriteGives was now (offered most c) (W.Took n) × (c' ≡ taken_more n c)
+Writes most was now c S.Again c' = (c.packets ≢ []) × WriteGives was now (offered most c) (W.Took 0) × (c' ≡ c)
+Writes most was now c (S.Ended ended) c' = ⊥
+Writes most was now c S.NoMemory c' = (c.packets ≢ []) × WriteGives was now (offered most c) W.NoMemory × (c' ≡ c)
+
+-- a write that failed
+abbrev pub Fails : ℕ → ConnectionRecord → ConnectionRecord → ClientSeen → Type 0
+Fails most was now c = (c.packets ≢ []) × WriteGives was now (offered most c) W.Failed
+
+-- the same of a connection's slot, which is empty where it has ended
+abbrev pub WritesSlot : ℕ → ConnectionRecord → ConnectionRecord → Option ClientSeen → Sent → Option ClientSeen → Type 0
+WritesSlot most was now None answer slot' = (answer ≡ S.Closed) × (now ≡ was) × (slot' ≡ None)
+WritesSlot most was now (Some c) answer slot' = (c' : ClientSeen) × Writes most was now c answer c' × (slot' ≡ Some c')
+
+abbrev pub FailsSlot : ℕ → ConnectionRecord → ConnectionRecord → Option ClientSeen → Type 0
+FailsSlot most was now None = ⊥
+FailsSlot most was now (Some c) = Fails most was now c

@@ -1,0 +1,132 @@
+// What settles one connection: rounds of reading, capturing and writing.
+ghost use Rattle.std.specs.Prelude.{◌≡◌, ◌≤◌, IfOk, IfErr};
+ghost use Rattle.link_bay.specs.Connections.{OthersStay};
+
+use crate::answers::{Captured, Received, Sent};
+use crate::ends::End;
+use crate::state::Session;
+use link_bay::Bay;
+use xp_base::Conn;
+
+/// How many bytes a connection may give while it is settled; no more are of a form that is built.
+const FLOOD: u32 = 4_194_304;
+
+/// How many writes in a row may take nothing.
+const DRY_LIMIT: u32 = 1000;
+
+/// How many bytes one write offers at most.
+const SEND_LIMIT: u32 = 65_536;
+
+impl<B: Bay + Drop> Session<B> {
+    ghost use Rattle.session_core.specs.State.{KeepsWindows};
+    ghost use Rattle.session_core.specs.Ends.{LeavesEnds, waiting_at, WritesLess};
+
+    /// Reads, then captures, writes and reads again, until there was nothing to read after all was written.
+    pub(crate) fn make_rounds(&mut self, c: Conn) -> Result<(), End>
+        ensures windows { KeepsWindows self.old self.new }
+        ensures ends { LeavesEnds c.0 self.old.ends result self.new.ends }
+        ensures others { OthersStay (B.connection self.old.bay) (B.connection self.new.bay) c.0 }
+        ensures provider { B.provider self.new.bay ≡ B.provider self.old.bay }
+    {
+        let mut left = self.receive_all(c, FLOOD)?;
+        'rounds: loop {
+            self.capture_all(c)?;
+            self.send_all(c)?;
+            let rest = self.receive_all(c, left)?;
+            if rest == left {
+                return self.check_greeted(c);
+            }
+            left = rest;
+        }
+    }
+
+    /// Reads until there is nothing to read. Answers how much less may be read.
+    fn receive_all(&mut self, c: Conn, budget: u32) -> Result<u32, End>
+        ensures windows { KeepsWindows self.old self.new }
+        ensures ends { LeavesEnds c.0 self.old.ends result self.new.ends }
+        ensures less { IfOk result (λ left. left ≤ budget) }
+        ensures others { OthersStay (B.connection self.old.bay) (B.connection self.new.bay) c.0 }
+        ensures provider { B.provider self.new.bay ≡ B.provider self.old.bay }
+    {
+        let mut left = budget;
+        'reads: loop {
+            match self.receive(c) {
+                Received::Took(count) => {
+                    if count > left {
+                        return Err(End::Unbuilt);
+                    }
+                    left -= count;
+                }
+                Received::Again => return Ok(left),
+                Received::Closed => return Err(End::Unbuilt),
+                Received::Ended(end) => return Err(end),
+                Received::NoMemory => return Err(End::Short),
+            }
+        }
+    }
+
+    /// Captures each window that the client has mapped.
+    fn capture_all(&mut self, c: Conn) -> Result<(), End>
+        ensures windows { KeepsWindows self.old self.new }
+        ensures ends { LeavesEnds c.0 self.old.ends result self.new.ends }
+        ensures bay { self.new.bay ≡ self.old.bay }
+    {
+        for place in 0..self.desk.len() {
+            let Some(window) = self.desk.as_slice().get(place) else {
+                return Ok(());
+            };
+            let wid = window.wid;
+            match self.capture(c, wid) {
+                Captured::NoMemory | Captured::Spent => return Err(End::Short),
+                _ => {}
+            }
+        }
+        Ok(())
+    }
+
+    /// Writes until nothing waits.
+    fn send_all(&mut self, c: Conn) -> Result<(), End>
+        ensures windows { KeepsWindows self.old self.new }
+        ensures ends { LeavesEnds c.0 self.old.ends result self.new.ends }
+        ensures others { OthersStay (B.connection self.old.bay) (B.connection self.new.bay) c.0 }
+        ensures provider { B.provider self.new.bay ≡ B.provider self.old.bay }
+    {
+        'writes: loop {
+            let wrote = self.send_some(c)?;
+            if !wrote {
+                return Ok(());
+            }
+        }
+    }
+
+    /// Writes until something was taken, or nothing waits: whether something was taken.
+    fn send_some(&mut self, c: Conn) -> Result<bool, End>
+        ensures windows { KeepsWindows self.old self.new }
+        ensures ends { LeavesEnds c.0 self.old.ends result self.new.ends }
+        ensures less { IfOk result (λ wrote. WritesLess wrote (waiting_at self.old.clients c.0) (waiting_at self.new.clients c.0)) }
+        ensures others { OthersStay (B.connection self.old.bay) (B.connection self.new.bay) c.0 }
+        ensures provider { B.provider self.new.bay ≡ B.provider self.old.bay }
+    {
+        for _ in 0..DRY_LIMIT {
+            match self.send(c, SEND_LIMIT) {
+                Sent::Took(_) => return Ok(true),
+                Sent::Again => {}
+                Sent::Idle => return Ok(false),
+                Sent::Closed => return Err(End::Unbuilt),
+                Sent::Ended(end) => return Err(end),
+                Sent::NoMemory => return Err(End::Short),
+            }
+        }
+        Err(End::Unbuilt)
+    }
+
+    /// A client that has not said a whole hello is not settled.
+    fn check_greeted(&self, c: Conn) -> Result<(), End>
+        ensures { IfErr result (λ end. end ≡ End.Unbuilt) }
+    {
+        match self.clients.get(c.0 as usize) {
+            Some(Some(client)) if client.greeted => Ok(()),
+            _ => Err(End::Unbuilt),
+        }
+    }
+}
