@@ -1,11 +1,14 @@
 -- What the program's words and input come to, and what is written with each status. This project's own.
-use Rattle.std.specs.Prelude.{ℕ, ◌≡◌, Option, Some, None, Result, Ok, Err, List, [], ◌∷◌, codes}
+use Rattle.std.specs.Prelude.{ℕ, ◌≡◌, ◌≢◌, All, IsOk, Option, Some, None, Result, Ok, Err, List, [], ◌∷◌, codes}
 use Rattle.xp_base.specs.Told.{told_append}
 use Rattle.paint_script.specs.declared.line.Line.{Line}
 use Rattle.paint_script.specs.Reading.{script_of}
-use Rattle.paint_script.specs.Validity.{paint_lines}
+use Rattle.paint_script.specs.Validity.{paint_lines, peer_orders}
 use Rattle.paint_script.specs.Painting.{last_desk}
+use Rattle.link_bay.specs.declared.order.Order.{Order}
 use Rattle.session_core.specs.declared.ends.End.{End}
+use Rattle.session_core.specs.declared.ends.End.TheVariants.{Short}
+use Rattle.session_core.specs.Ends.{AllEnded}
 use Rattle.xpra_server.specs.Report.{report}
 use Rattle.xpra_server.specs.Texts.{fault_line}
 
@@ -27,6 +30,25 @@ IsFaultOf (Err number) written = written ≡ fault_line number
 abbrev pub Reports : Option (List ℕ) → List End → Option (List ℕ) → Option (List ℕ) → Type 0
 Reports None ends taken taken' = Unit {0}
 Reports (Some text) ends taken taken' = (written : List ℕ) × IsReportOf (script_of text) ends written × (taken' ≡ told_append taken written)
+
+-- the provider was asked for the peers that the script orders, and for nothing else
+abbrev pub AsksFor : Result (List Line) ℕ → Option (List Order) → Option (List Order) → Type 0
+AsksFor (Ok lines) asked asked' = asked' ≡ told_append asked (peer_orders lines)
+AsksFor (Err number) asked asked' = ⊥
+
+abbrev pub Asks : Option (List ℕ) → Option (List Order) → Option (List Order) → Type 0
+Asks None asked asked' = Unit {0}
+Asks (Some text) asked asked' = AsksFor (script_of text) asked asked'
+
+-- where the input tells its bytes they are a script
+abbrev pub IsScript : Option (List ℕ) → Type 0
+IsScript None = Unit {0}
+IsScript (Some text) = IsOk (script_of text)
+
+-- each connection has ended, and none for want of memory
+pub record AreEnds (ends : List End) : Type 0 where
+  pub ended : AllEnded ends
+  pub fed : All (λ e. e ≢ Short) ends
 
 -- where the input tells its bytes they are no script, and the fault line was written
 abbrev pub Faults : Option (List ℕ) → Option (List ℕ) → Option (List ℕ) → Type 0

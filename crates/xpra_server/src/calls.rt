@@ -1,13 +1,14 @@
 // The top call.
-ghost use Rattle.std.specs.Prelude.{◌≡◌, ◌≤◌, ◌⊎◌, ◌↔◌, IsTrue, codes, length, map, string_bytes};
+ghost use Rattle.std.specs.Prelude.{◌≡◌, ◌≤◌, ◌⊎◌, ◌↔◌, IsTrue, true, [], codes, length, map, string_bytes};
 ghost use Rattle.xp_base.specs.Counts.{Rose};
 ghost use Rattle.xp_base.specs.Told.{HasNoneLeft, told_append};
 ghost use Rattle.link_bay.specs.Provider.{IsFresh};
-ghost use Rattle.xpra_server.specs.Statuses.{IsPlay, Reports, Faults};
+ghost use Rattle.xpra_server.specs.Statuses.{IsPlay, Reports, Faults, IsScript, AreEnds, Asks};
+ghost use Rattle.xpra_server.specs.Read.{IsLonger};
 ghost use Rattle.xpra_server.specs.Report.{report as report_text};
 ghost use Rattle.xpra_server.specs.Texts.{fault_line};
 ghost use Rattle.paint_script.specs.Painting.{last_desk};
-ghost use Rattle.paint_script.specs.Validity.{paint_lines};
+ghost use Rattle.paint_script.specs.Validity.{paint_lines, peer_orders};
 ghost use Rattle.xpra_server.specs.Texts.{usage_line};
 
 use crate::input::{Input, read_all};
@@ -53,7 +54,15 @@ pub fn top<S: Source, K: Sink, B: Bay + Drop>(
     ensures accept { result.status ≡ 6 → Rose (B.provider bay).faults (B.provider result.bay).faults }
     ensures statuses { result.status ≤ 6 }
     ensures read { result.status ≡ 0 → HasNoneLeft (S.source input.new).left }
-    ensures ends { result.status ≡ 0 → length result.ends.items ≡ (B.provider result.bay).count }
+    ensures judged { result.status ≡ 2 → HasNoneLeft (S.source input.new).left ⊎ IsLonger 65536 (S.source input.old).left }
+    ensures valid { (result.status ≡ 0) ⊎ (result.status ≡ 6) → IsScript (S.source input.old).left }
+    ensures unread { result.status ≡ 1 → S.source input.new ≡ S.source input.old }
+    ensures unwritten { (result.status ≡ 3) ⊎ (result.status ≡ 6) → K.sink out.new ≡ K.sink out.old }
+    ensures untouched { (result.status ≡ 1) ⊎ (result.status ≡ 2) ⊎ (result.status ≡ 3) → result.bay ≡ bay }
+    ensures counted { length result.ends.items ≡ (B.provider result.bay).count }
+    ensures ended { result.status ≡ 0 → AreEnds result.ends.items }
+    ensures asked { result.status ≡ 0 → Asks (S.source input.old).left (B.provider bay).asked (B.provider result.bay).asked }
+    ensures served { result.status ≡ 0 → B.tells ≡ true → (B.provider result.bay).room ≡ 0 }
 {
     let alloc = *words.allocator();
     if !is_play(words) {
@@ -98,7 +107,11 @@ fn play_script<K: Sink, B: Bay + Drop>(
     ensures report { result.status ≡ 0 → (K.sink out.new).taken ≡ told_append (K.sink out.old).taken (report_text (last_desk (paint_lines script.now)) result.ends.items) }
     ensures output { result.status ≡ 4 → Rose (K.sink out.old).faults (K.sink out.new).faults }
     ensures accept { result.status ≡ 6 → Rose (B.provider bay).faults (B.provider result.bay).faults }
-    ensures ends { length result.ends.items ≡ (B.provider result.bay).count }
+    ensures unwritten { result.status ≡ 6 → K.sink out.new ≡ K.sink out.old }
+    ensures counted { length result.ends.items ≡ (B.provider result.bay).count }
+    ensures ended { result.status ≡ 0 → AreEnds result.ends.items }
+    ensures asked { result.status ≡ 0 → (B.provider result.bay).asked ≡ told_append (B.provider bay).asked (peer_orders script.now) }
+    ensures served { result.status ≡ 0 → B.tells ≡ true → (B.provider result.bay).room ≡ 0 }
 {
     let Played { shown, ends, bay } = play(alloc, script, bay);
     let status = match shown {
@@ -117,6 +130,8 @@ fn refuse<K: Sink, B: Bay + Drop>(alloc: Global, line: u32, out: &mut K, bay: B)
     ensures statuses { (result.status ≡ 2) ⊎ (result.status ≡ 4) ⊎ (result.status ≡ 5) }
     ensures text { result.status ≡ 2 → (K.sink out.new).taken ≡ told_append (K.sink out.old).taken (fault_line line) }
     ensures output { result.status ≡ 4 → Rose (K.sink out.old).faults (K.sink out.new).faults }
+    ensures bay { result.bay ≡ bay }
+    ensures ends { result.ends.items ≡ [] }
 {
     let none = Vec::new(alloc);
     match fault_text(alloc, line) {

@@ -1,9 +1,11 @@
 // A run of a script, to its settling.
-ghost use Rattle.std.specs.Prelude.{◌≡◌, ◌≤◌, Err, OnOk, IfOk, length};
+ghost use Rattle.std.specs.Prelude.{◌≡◌, ◌≤◌, true, Err, OnOk, IfOk, IsOk, length};
 ghost use Rattle.xp_base.specs.Counts.{Rose};
 ghost use Rattle.link_bay.specs.Provider.{IsFresh};
 ghost use Rattle.paint_script.specs.Painting.{last_desk};
-ghost use Rattle.paint_script.specs.Validity.{paint_lines};
+ghost use Rattle.paint_script.specs.Validity.{paint_lines, peer_orders};
+ghost use Rattle.xp_base.specs.Told.{told_append};
+ghost use Rattle.xpra_server.specs.Statuses.{AreEnds};
 
 use link_bay::Bay;
 use paint_script::{Line, Script, desk_at_end};
@@ -32,7 +34,10 @@ pub fn play<B: Bay + Drop>(alloc: Global, script: &Script, bay: B) -> Played<B>
     requires fresh { IsFresh (B.provider bay) }
     ensures shown { IfOk result.shown (λ desk. desk ≡ last_desk (paint_lines script.now)) }
     ensures accept { result.shown ≡ Err Stop.BayFault → Rose (B.provider bay).faults (B.provider result.bay).faults }
-    ensures ends { length result.ends.items ≡ (B.provider result.bay).count }
+    ensures counted { length result.ends.items ≡ (B.provider result.bay).count }
+    ensures ended { IsOk result.shown → AreEnds result.ends.items }
+    ensures asked { IsOk result.shown → (B.provider result.bay).asked ≡ told_append (B.provider bay).asked (peer_orders script.now) }
+    ensures served { IsOk result.shown → B.tells ≡ true → (B.provider result.bay).room ≡ 0 }
 {
     let none = Vec::new(alloc);
     let Ok(paints) = script.paints(alloc) else {
@@ -76,6 +81,8 @@ fn make_lines<B: Bay + Drop>(session: &mut Session<B>, lines: &[Line]) -> Result
     requires lines { session.old.lines ≡ paint_lines lines.now }
     ensures desk { OnOk result (session.new.desk ≡ last_desk (paint_lines lines.now)) }
     ensures faults { OnOk result ((B.provider session.new.bay).faults ≡ (B.provider session.old.bay).faults) }
+    ensures asked { OnOk result ((B.provider session.new.bay).asked ≡ told_append (B.provider session.old.bay).asked (peer_orders lines.now)) }
+    ensures ends { OnOk result (session.new.ends ≡ session.old.ends) }
 {
     desk_at_end();
     for line in lines {

@@ -160,3 +160,18 @@ fn a_provider_that_tells_nothing_serves_as_well(rt: HostRuntime) -> Result<(), F
     );
     Ok(())
 }
+
+/// What the client of the red square is sent: the server's hello, the window's announcement, and the draw
+/// of its four pixels with the sequence number 1.
+const SENT: &[u8; 214] =
+    b"P\x00\x00\x00\x00\x00\x00\x4bl5:hellod7:bencodei1e9:encodingsl5:rgb32e3:lz4i0e7:rencodei0e7:version1:1eeP\x00\x00\x00\x00\x00\x00\x20l10:new-windowi1ei0ei0ei2ei2edeeP\x00\x00\x07\x00\x00\x00\x10\x00\x00\xff\xff\x00\x00\xff\xff\x00\x00\xff\xff\x00\x00\xff\xffP\x00\x00\x00\x00\x00\x00\x3bl4:drawi1ei0ei0ei2ei2e5:rgb320:i1ei8ed10:rgb_format4:BGRXee";
+
+#[test]
+fn a_client_is_sent_hello_window_and_draw(rt: HostRuntime) -> Result<(), Fail> {
+    let alloc = rt.alloc();
+    let mut out = MemSink::new(alloc, numbers(alloc, &[])?);
+    let script = b"open 1 0 0 2 2\nfill 1 0 0 2 2 ff0000\npeer exact\n";
+    let left = played(alloc, "play", script, &mut out)?;
+    assert_eq!(rt; left.bay.sent_bytes(), SENT.as_slice());
+    Ok(())
+}
