@@ -1,5 +1,6 @@
 -- One layer of a value.
-use Rattle.std.proofs.Common.{◌≡◌, ℕ, Bool, true, false, List, refl, sym, ap, ◌∙◌}
+use Rattle.std.proofs.Common.{◌≡◌, ℕ, zero, suc, ◌<◌, Bool, true, false, List, [], ◌∷◌, length, refl, sym, ap, ◌∙◌, arith}
+use Rattle.std.proofs.lemmas.Bool.{false≢true}
 use Rattle.std.specs.Prelude.{ℤ, Option, Some, None, slice_get, slice_set, if◌then◌else◌}
 use Rattle.bencode_values.specs.declared.value.Value.{Value, out-Value, out-roll-Value}
 use Rattle.bencode_values.specs.declared.value.Value.TheVariants as V
@@ -44,3 +45,9 @@ put_in-misfit items index bytes h = put_in-List items index bytes ∙ ap (λ b. 
 
 pub empty_string : (v : Value) (layer : Value-F Value Pair) → out-Value v ≡ layer → is_empty_string (Some v) ≡ is_empty_layer layer
 empty_string v layer is = ap is_empty_layer is
+
+-- an item that is an empty byte string is there
+pub item_there : (items : List Value) (index : ℕ) → is_empty_string (slice_get items index) ≡ true → index < length items
+item_there [] index h = absurd (false≢true h)
+item_there (v ∷ items) zero h = omega arith
+item_there (v ∷ items) (suc index) h = let there = item_there items index h in omega arith

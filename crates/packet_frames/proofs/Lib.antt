@@ -1,3 +1,5 @@
+pub mod Contents
 pub mod Examples
+pub mod Frames
 pub mod Headers
 pub mod Layers

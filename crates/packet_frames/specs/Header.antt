@@ -1,6 +1,6 @@
 -- The eight bytes of a header. Their layout is that of Xpra's protocol; which flags and levels are taken, the
 -- limit and the rule on indexes are this project's own.
-use Rattle.std.specs.Prelude.{ℕ, ◌+◌, ◌*◌, ◌==◌, ◌||◌, ◌&&◌, not, Bool, List, [], ◌∷◌, length, nat_lt, nat_le, slice_index, if◌then◌else◌}
+use Rattle.std.specs.Prelude.{ℕ, ◌<◌, ◌≤◌, ◌+◌, ◌*◌, ◌==◌, ◌||◌, ◌&&◌, not, Bool, List, [], ◌∷◌, length, nat_lt, nat_le, slice_index, if◌then◌else◌}
 use Rattle.std.specs.List.{list_any}
 use Rattle.packet_frames.specs.declared.fault.FrameFault.TheVariants as F
 use Rattle.packet_frames.specs.declared.head.Head.{Head}
@@ -68,3 +68,9 @@ head_at limit given bytes =
             else H.Wrong 2 (F.Level (slice_index bytes 2)))
         else H.Wrong 1 (F.Flags (slice_index bytes 1)))
     else H.Wrong 0 F.Magic
+
+-- what a header says, its bytes are there
+abbrev pub IsThere : List ℕ → Head → Type 0
+IsThere bytes H.Part = Unit {0}
+IsThere bytes (H.Wrong place kind) = place < length bytes
+IsThere bytes (H.Whole index size) = 8 ≤ length bytes

@@ -1,3 +1,4 @@
+pub mod Begins
 pub mod Framing
 pub mod Header
 pub mod Stream

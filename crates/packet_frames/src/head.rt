@@ -1,6 +1,6 @@
 // Headers.
 ghost use Rattle.std.specs.Prelude.{◌≡◌, ℕ, ◌<◌, length, map, slice_index};
-ghost use Rattle.packet_frames.specs.Header.{head_at, is_given, may_come, size_at};
+ghost use Rattle.packet_frames.specs.Header.{head_at, is_given, may_come, size_at, IsThere};
 
 use crate::ahead::Ahead;
 use crate::fault::FrameFault;
@@ -21,7 +21,8 @@ pub(crate) enum Head {
 
 /// The header that begins with these bytes, behind these chunks.
 pub(crate) fn head_in(limit: u32, chunks: &[Ahead], bytes: &[u8]) -> Head
-    ensures { result ≡ head_at limit (map (λ chunk. chunk.index) chunks.now) bytes.now }
+    ensures says { result ≡ head_at limit (map (λ chunk. chunk.index) chunks.now) bytes.now }
+    ensures there { IsThere bytes.now result }
 {
     if bytes.len() <= 0 {
         return Head::Part;
@@ -53,7 +54,8 @@ pub(crate) fn head_in(limit: u32, chunks: &[Ahead], bytes: &[u8]) -> Head
 /// The size in bytes 4 to 7 of a header whose index stands before them.
 fn size_in(limit: u32, bytes: &[u8]) -> Head
     requires { 3 < length bytes.now }
-    ensures { result ≡ size_at limit (slice_index bytes.now 3) bytes.now }
+    ensures says { result ≡ size_at limit (slice_index bytes.now 3) bytes.now }
+    ensures there { IsThere bytes.now result }
 {
     if bytes.len() <= 7 {
         return Head::Part;

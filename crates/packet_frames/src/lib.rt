@@ -3,7 +3,11 @@
 #![tactic(auto)]
 
 mod ahead;
+mod begun;
 mod fault;
 mod head;
+mod item;
+mod main_packet;
+mod packet;
 
 pub use fault::FrameFault;
