@@ -1,16 +1,19 @@
 -- Frames, one after another.
 use Rattle.std.proofs.Common.{◌≡◌, ◌≢◌, ℕ, zero, suc, ◌+◌, ◌-◌, ◌<◌, ◌≤◌, Bool, true, false, List, [], ◌∷◌, ◌++◌, length, take, drop, map, refl, sym, ap, subst, ◌∙◌, arith}
-use Rattle.std.specs.Prelude.{nat_lt, ◌==◌, All, slice_range, if◌then◌else◌}
+use Rattle.std.specs.Prelude.{nat_lt, ◌==◌, All, slice_range, if◌then◌else◌, Result, Ok, Err, IfOk}
 use Rattle.std.proofs.lemmas.Bool.Decides.{nat_tests}
 use Rattle.std.proofs.lemmas.List.{length-append, length-drop, length-take-le, take-append-le, drop-append-le, drop-drop, take-append-drop, append-nil}
+use Rattle.std.proofs.Math.Seq.{take-length}
 use Rattle.std.proofs.lemmas.List.Elements.{All-nil, All-push}
 use Rattle.packet_frames.specs.declared.ahead.Ahead.{Ahead}
+use Rattle.packet_frames.specs.declared.begun.Begun.{Begun}
+use Rattle.packet_frames.specs.declared.begun.Begun.TheVariants as B
 use Rattle.packet_frames.specs.declared.fault.FrameFault.{FrameFault}
 use Rattle.packet_frames.specs.declared.head.Head.{Head}
 use Rattle.packet_frames.specs.declared.head.Head.TheVariants as H
 use Rattle.packet_frames.specs.Header.{head_of, head_at}
 use Rattle.packet_frames.specs.Framing.{Chunk, Beginning, part, whole, wrong, read_of, main_judged, content_judged, frame_judged, nothing_more, indexes, frames, begins}
-use Rattle.packet_frames.specs.Begins.{chunk_in, LiesIn}
+use Rattle.packet_frames.specs.Begins.{chunk_in, LiesIn, Says, BeginsAs}
 use Rattle.packet_frames.proofs.Headers.{head_is, head-stays, head-front, head-whole, IsHeader, last_is_main}
 
 -- the loop's meaning
@@ -146,3 +149,22 @@ module _ (limit : ℕ) (bytes : List ℕ) (at : ℕ) (chunks : List Ahead) (goes
 
     pub goes_chunk : index ≢ 0 → size ≤ length bytes - at - 8 → Goes limit bytes (at + 8 + size) (chunks ++ newest ∷ [])
     goes_chunk other long = goes_on goes.room other long goes.few goes.leads
+
+begins_as : (limit : ℕ) (bytes : List ℕ) (b : Beginning) (found : Begun) → begins limit bytes ≡ b → Says b found → BeginsAs limit bytes found
+begins_as limit bytes b (B.Part more) e h = absurd h
+begins_as limit bytes b (B.Whole at v size) e h = e ∙ h
+begins_as limit bytes b (B.Wrong place kind) e h = e ∙ h
+
+-- what a whole content makes of the bytes is what they begin with
+pub begins_from : {E : Type 0} (limit : ℕ) (bytes : List ℕ) (b : Beginning) (r : Result Begun E) → begins limit bytes ≡ b → IfOk r (Says b) → IfOk r (BeginsAs limit bytes)
+begins_from limit bytes b (Ok found) e h = begins_as limit bytes b found e h
+begins_from limit bytes b (Err error) e h = tt
+
+to_end : (bytes : List ℕ) (at : ℕ) → slice_range bytes at (length bytes) ≡ drop at bytes
+to_end bytes at = ap (λ n. take n (drop at bytes)) (sym (length-drop at bytes)) ∙ take-length (drop at bytes)
+
+-- what a header says, over the bytes from its place to the end
+pub heard : (limit : ℕ) (bytes : List ℕ) (at : ℕ) (seen chunks : List Ahead) (h : Head) → seen ≡ chunks
+    → h ≡ head_at limit (map (λ c. c.index) seen) (slice_range bytes at (length bytes)) → h ≡ head_at limit (map (λ c. c.index) chunks) (drop at bytes)
+heard limit bytes at seen chunks h same e = e ∙ ap (λ cs. head_at limit (map (λ (c : Ahead). c.index) cs) (slice_range bytes at (length bytes))) same
+    ∙ ap (head_at limit (map (λ (c : Ahead). c.index) chunks)) (to_end bytes at)
