@@ -168,3 +168,14 @@ pub heard : (limit : ℕ) (bytes : List ℕ) (at : ℕ) (seen chunks : List Ahea
     → h ≡ head_at limit (map (λ c. c.index) seen) (slice_range bytes at (length bytes)) → h ≡ head_at limit (map (λ c. c.index) chunks) (drop at bytes)
 heard limit bytes at seen chunks h same e = e ∙ ap (λ cs. head_at limit (map (λ (c : Ahead). c.index) cs) (slice_range bytes at (length bytes))) same
     ∙ ap (head_at limit (map (λ (c : Ahead). c.index) chunks)) (to_end bytes at)
+
+-- behind the last chunk that may come there is only a main packet
+pub frames-none : (limit at : ℕ) (chunks : List Chunk) (xs : List ℕ) (index size : ℕ) → head_of limit (indexes chunks) xs ≡ H.Whole index size → index ≢ 0 → frames 0 limit at chunks xs ≡ part
+unfolding frames
+frames-none limit at chunks xs index size e other =
+    let ahead : (index == 0) ≡ false = grind (arith, nat_tests) in
+    ap (frame_judged at chunks xs nothing_more) e ∙ none_by_size (nat_lt (length (drop 8 xs)) size) ahead
+  where
+    none_by_size : (b : Bool) → (index == 0) ≡ false → (if b then part else if index == 0 then main_judged at size chunks (read_of (take size (drop 8 xs))) else part) ≡ part
+    none_by_size true h = refl
+    none_by_size false h = ap (λ b. if b then main_judged at size chunks (read_of (take size (drop 8 xs))) else part) h

@@ -1,4 +1,6 @@
 pub mod Begins
+pub mod Following
+pub mod Framers
 pub mod Framing
 pub mod Header
 pub mod Stream

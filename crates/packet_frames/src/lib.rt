@@ -5,9 +5,13 @@
 mod ahead;
 mod begun;
 mod fault;
+mod framer;
 mod head;
 mod item;
 mod main_packet;
+mod next;
 mod packet;
 
 pub use fault::FrameFault;
+pub use framer::Framer;
+pub use next::Next;
