@@ -135,16 +135,16 @@ module _ (limit : ℕ) (bytes : List ℕ) (at : ℕ) (chunks : List Ahead) (goes
           within = omega arith;
           lie = All-push (LiesIn bytes) chunks newest goes.lie (record { header = omega arith; content = omega arith });
           leads = λ next.
-            let all = length-append (drop at bytes) next in
-            let behind : drop 8 (drop at bytes ++ next) ≡ drop 8 (drop at bytes) ++ next = drop-append-le 8 (drop at bytes) next eight in
-            let taken : take size (drop 8 (drop at bytes ++ next)) ≡ slice_range bytes (at + 8) (at + 8 + size) =
-            ap (take size) behind ∙ take-append-le size (drop 8 (drop at bytes)) next content ∙ content_is bytes at size in
-            let left : drop size (drop 8 (drop at bytes ++ next)) ≡ drop (at + 8 + size) bytes ++ next =
-            ap (drop size) behind ∙ drop-append-le size (drop 8 (drop at bytes)) next content ∙ ap (λ xs. xs ++ next) (ap (drop size) (drop-drop 8 at bytes) ∙ drop-drop size (at + 8) bytes) in
-            leads next ∙ frames-chunk room limit at ahead (drop at bytes ++ next) index size (further next) other (omega arith)
-            ∙ ap (λ xs. frames room limit (at + 8 + size) (ahead ++ record { index = index; at = at; bytes = xs } ∷ []) (drop size (drop 8 (drop at bytes ++ next)))) taken
-            ∙ ap (frames room limit (at + 8 + size) (ahead ++ chunk_in bytes newest ∷ [])) left
-            ∙ ap (λ cs. frames room limit (at + 8 + size) cs (drop (at + 8 + size) bytes ++ next)) (sym (map_push (chunk_in bytes) chunks newest));
+              let all = length-append (drop at bytes) next in
+              let behind : drop 8 (drop at bytes ++ next) ≡ drop 8 (drop at bytes) ++ next = drop-append-le 8 (drop at bytes) next eight in
+              let taken : take size (drop 8 (drop at bytes ++ next)) ≡ slice_range bytes (at + 8) (at + 8 + size) =
+              ap (take size) behind ∙ take-append-le size (drop 8 (drop at bytes)) next content ∙ content_is bytes at size in
+              let left : drop size (drop 8 (drop at bytes ++ next)) ≡ drop (at + 8 + size) bytes ++ next =
+              ap (drop size) behind ∙ drop-append-le size (drop 8 (drop at bytes)) next content ∙ ap (λ xs. xs ++ next) (ap (drop size) (drop-drop 8 at bytes) ∙ drop-drop size (at + 8) bytes) in
+              leads next ∙ frames-chunk room limit at ahead (drop at bytes ++ next) index size (further next) other (omega arith)
+              ∙ ap (λ xs. frames room limit (at + 8 + size) (ahead ++ record { index = index; at = at; bytes = xs } ∷ []) (drop size (drop 8 (drop at bytes ++ next)))) taken
+              ∙ ap (frames room limit (at + 8 + size) (ahead ++ chunk_in bytes newest ∷ [])) left
+              ∙ ap (λ cs. frames room limit (at + 8 + size) cs (drop (at + 8 + size) bytes ++ next)) (sym (map_push (chunk_in bytes) chunks newest));
         }
 
     pub goes_chunk : index ≢ 0 → size ≤ length bytes - at - 8 → Goes limit bytes (at + 8 + size) (chunks ++ newest ∷ [])
@@ -160,7 +160,7 @@ pub begins_from : {E : Type 0} (limit : ℕ) (bytes : List ℕ) (b : Beginning) 
 begins_from limit bytes b (Ok found) e h = begins_as limit bytes b found e h
 begins_from limit bytes b (Err error) e h = tt
 
-to_end : (bytes : List ℕ) (at : ℕ) → slice_range bytes at (length bytes) ≡ drop at bytes
+pub to_end : (bytes : List ℕ) (at : ℕ) → slice_range bytes at (length bytes) ≡ drop at bytes
 to_end bytes at = ap (λ n. take n (drop at bytes)) (sym (length-drop at bytes)) ∙ take-length (drop at bytes)
 
 -- what a header says, over the bytes from its place to the end

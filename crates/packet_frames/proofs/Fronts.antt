@@ -89,7 +89,7 @@ main_front room limit at chunks xs n place v size e there is =
       parts = frame_parts n xs there;
       sized = omega arith;
       holds = λ ys. frames-main room limit at chunks (take (8 + n) xs ++ ys) n (frame_head n xs there limit (indexes chunks) ys (H.Whole 0 n) e) (frame_there n xs there ys)
-        ∙ ap (λ content. main_judged at n chunks (read_of content)) (frame_content n xs there ys) ∙ judged;
+          ∙ ap (λ content. main_judged at n chunks (read_of content)) (frame_content n xs there ys) ∙ judged;
     }
 
 chunk_front : (room limit at : ℕ) (chunks : List Chunk) (xs : List ℕ) (index n place : ℕ) (v : Value) (size : ℕ) → HasFront room limit → head_of limit (indexes chunks) xs ≡ H.Whole index n → index ≢ 0
@@ -106,10 +106,10 @@ chunk_front room limit at chunks xs index n place v size later e other there is 
       parts = frame_parts n xs there ∙ ap (λ zs. take (8 + n) xs ++ zs) (sym (drop-drop n 8 xs) ∙ inner.parts) ∙ sym (append_assoc (take (8 + n) xs) inner.front inner.rest);
       sized = omega arith;
       holds = λ ys. ap (frames (suc room) limit at chunks) (append_assoc (take (8 + n) xs) inner.front ys)
-        ∙ frames-chunk room limit at chunks (take (8 + n) xs ++ (inner.front ++ ys)) index n (frame_head n xs there limit (indexes chunks) (inner.front ++ ys) (H.Whole index n) e) other (frame_there n xs there (inner.front ++ ys))
-        ∙ ap (λ bytes. frames room limit (at + 8 + n) (chunks ++ record { index = index; at = at; bytes = bytes } ∷ []) (drop n (drop 8 (take (8 + n) xs ++ (inner.front ++ ys))))) (frame_content n xs there (inner.front ++ ys))
-        ∙ ap (frames room limit (at + 8 + n) cs) (frame_behind n xs there (inner.front ++ ys))
-        ∙ inner.holds ys;
+          ∙ frames-chunk room limit at chunks (take (8 + n) xs ++ (inner.front ++ ys)) index n (frame_head n xs there limit (indexes chunks) (inner.front ++ ys) (H.Whole index n) e) other (frame_there n xs there (inner.front ++ ys))
+          ∙ ap (λ bytes. frames room limit (at + 8 + n) (chunks ++ record { index = index; at = at; bytes = bytes } ∷ []) (drop n (drop 8 (take (8 + n) xs ++ (inner.front ++ ys))))) (frame_content n xs there (inner.front ++ ys))
+          ∙ ap (frames room limit (at + 8 + n) cs) (frame_behind n xs there (inner.front ++ ys))
+          ∙ inner.holds ys;
     }
 
 front_whole : (room limit at : ℕ) (chunks : List Chunk) (xs : List ℕ) (index n place : ℕ) (v : Value) (size : ℕ)

@@ -1,5 +1,6 @@
 pub mod Contents
 pub mod Examples
+pub mod Follows
 pub mod Frames
 pub mod Fronts
 pub mod Headers

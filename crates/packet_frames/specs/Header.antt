@@ -58,15 +58,15 @@ abbrev pub head_at : ℕ → List ℕ → List ℕ → Head
 head_at limit given bytes =
     if nat_le (length bytes) 0 then H.Part
     else if slice_index bytes 0 == 80 then
-        (if nat_le (length bytes) 1 then H.Part
-        else if slice_index bytes 1 == 0 || slice_index bytes 1 == 8 then
-            (if nat_le (length bytes) 2 then H.Part
-            else if slice_index bytes 2 == 0 then
-                (if nat_le (length bytes) 3 then H.Part
-                else if may_come (slice_index bytes 3) given then size_at limit (slice_index bytes 3) bytes
-                else H.Wrong 3 (F.Chunk (slice_index bytes 3)))
-            else H.Wrong 2 (F.Level (slice_index bytes 2)))
-        else H.Wrong 1 (F.Flags (slice_index bytes 1)))
+    (if nat_le (length bytes) 1 then H.Part
+    else if slice_index bytes 1 == 0 || slice_index bytes 1 == 8 then
+    (if nat_le (length bytes) 2 then H.Part
+    else if slice_index bytes 2 == 0 then
+    (if nat_le (length bytes) 3 then H.Part
+    else if may_come (slice_index bytes 3) given then size_at limit (slice_index bytes 3) bytes
+    else H.Wrong 3 (F.Chunk (slice_index bytes 3)))
+    else H.Wrong 2 (F.Level (slice_index bytes 2)))
+    else H.Wrong 1 (F.Flags (slice_index bytes 1)))
     else H.Wrong 0 F.Magic
 
 -- what a header says, its bytes are there

@@ -54,10 +54,7 @@ fn put_all(
         match put_in(alloc, filled, chunk.index, &bytes[chunk.at + 8..chunk.end])? {
             Some(next) => filled = next,
             None => {
-                return Ok(Begun::Wrong(
-                    chunk.at + 3,
-                    FrameFault::Chunk(chunk.index),
-                ));
+                return Ok(Begun::Wrong(chunk.at + 3, FrameFault::Chunk(chunk.index)));
             }
         }
     }

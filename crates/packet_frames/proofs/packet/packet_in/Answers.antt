@@ -12,9 +12,11 @@ pub loop-chunks-init : goal.loop-chunks-init
 loop-chunks-init c = subst (Goes c.args.limit c.args.bytes.now 0) (sym c.new-chunks.ensures.items) (goes_start c.args.limit c.args.bytes.now)
 
 pub returns-in-Part : goal.returns-in-Part
-returns-in-Part c =
-    (omega arith, goes_part c.args.limit c.args.bytes.now c.loop-chunks.at c.loop-chunks.chunks.items c.loop-chunks.invariant
-    (heard c.args.limit c.args.bytes.now c.loop-chunks.at c.as_slice.result.now c.loop-chunks.chunks.items H.Part c.as_slice.ensures.value c.in-Part.ensures.says))
+returns-in-Part c = (
+  omega arith,
+  goes_part c.args.limit c.args.bytes.now c.loop-chunks.at c.loop-chunks.chunks.items c.loop-chunks.invariant
+      (heard c.args.limit c.args.bytes.now c.loop-chunks.at c.as_slice.result.now c.loop-chunks.chunks.items H.Part c.as_slice.ensures.value c.in-Part.ensures.says),
+)
 
 pub returns-in-Wrong : goal.returns-in-Wrong
 returns-in-Wrong c =
@@ -22,10 +24,12 @@ returns-in-Wrong c =
     (heard c.args.limit c.args.bytes.now c.loop-chunks.at c.as_slice.result.now c.loop-chunks.chunks.items (H.Wrong c.in-Wrong.place c.in-Wrong.fault) c.as_slice.ensures.value c.in-Wrong.ensures.says)
 
 pub returns-then-there-size : goal.returns-then-there-size
-returns-then-there-size c =
-    (omega (arith, c.if-there-size.true), λ next few. goes_short c.args.limit c.args.bytes.now c.loop-chunks.at c.loop-chunks.chunks.items c.loop-chunks.invariant c.in-Whole.index c.in-Whole.size
-    (heard c.args.limit c.args.bytes.now c.loop-chunks.at c.as_slice.result.now c.loop-chunks.chunks.items (H.Whole c.in-Whole.index c.in-Whole.size) c.as_slice.ensures.value c.in-Whole.ensures.says)
-    next c.if-there-size.true few)
+returns-then-there-size c = (
+  omega (arith, c.if-there-size.true),
+  λ next few. goes_short c.args.limit c.args.bytes.now c.loop-chunks.at c.loop-chunks.chunks.items c.loop-chunks.invariant c.in-Whole.index c.in-Whole.size
+      (heard c.args.limit c.args.bytes.now c.loop-chunks.at c.as_slice.result.now c.loop-chunks.chunks.items (H.Whole c.in-Whole.index c.in-Whole.size) c.as_slice.ensures.value c.in-Whole.ensures.says)
+      next c.if-there-size.true few,
+)
 
 pub returns-then-index-eq0 : goal.returns-then-index-eq0
 returns-then-index-eq0 c =
