@@ -7,3 +7,4 @@ pub mod Headers
 pub mod Layers
 pub mod Reading
 pub mod Streams
+pub mod Writing

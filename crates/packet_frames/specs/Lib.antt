@@ -4,3 +4,4 @@ pub mod Framers
 pub mod Framing
 pub mod Header
 pub mod Stream
+pub mod Written

@@ -4,14 +4,23 @@
 
 mod ahead;
 mod begun;
+mod chunk;
 mod fault;
 mod framer;
 mod head;
 mod item;
+mod laws;
 mod main_packet;
 mod next;
 mod packet;
+mod writer;
 
+pub use chunk::Chunk;
 pub use fault::FrameFault;
 pub use framer::Framer;
+pub use laws::{
+    a_part_of_a_packet_adds_none, a_written_packet_follows, appending_reads_on,
+    nothing_is_read_behind_a_fault,
+};
 pub use next::Next;
+pub use writer::write_packet;

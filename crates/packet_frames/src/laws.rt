@@ -1,0 +1,24 @@
+// What holds of all streams.
+ghost use Rattle.std.specs.Prelude.{◌≡◌, ◌≢◌, ℕ, List, ◌++◌, None};
+ghost use Rattle.packet_frames.specs.Stream.{Stream, read_on};
+ghost use Rattle.packet_frames.specs.Written.{WrittenFollows, PartAddsNone};
+
+/// A stream may be read in two parts: what follows is read on from what the first part held.
+pub fn appending_reads_on()
+    ensures { (limit : ℕ) (s : Stream) (bytes more : List ℕ) → read_on limit s (bytes ++ more) ≡ read_on limit (read_on limit s bytes) more }
+{}
+
+/// Behind a fault nothing is read.
+pub fn nothing_is_read_behind_a_fault()
+    ensures { (limit : ℕ) (s : Stream) (bytes : List ℕ) → s.fault ≢ None → read_on limit s bytes ≡ s }
+{}
+
+/// Behind a clean stream the bytes of a written packet are that packet.
+pub fn a_written_packet_follows()
+    ensures { WrittenFollows }
+{}
+
+/// A part of a written packet's bytes, short of them all, adds no packet to a clean stream and no fault.
+pub fn a_part_of_a_packet_adds_none()
+    ensures { PartAddsNone }
+{}
