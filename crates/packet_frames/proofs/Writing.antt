@@ -15,7 +15,7 @@ use Rattle.packet_frames.specs.declared.head.Head.TheVariants as H
 use Rattle.packet_frames.specs.Header.{head_of, size_of, may_come}
 use Rattle.packet_frames.specs.Framing.{Chunk, Beginning, part, whole, wrong, read_of, main_judged, put_in, put_or_wrong, put_all, indexes, frames, begins}
 use Rattle.packet_frames.specs.Stream.{Packet, Fault, Stream, from_place, read_on, packets_of}
-use Rattle.packet_frames.specs.Written.{Carried, frame_bytes, chunk_bytes, packet_bytes, filled, ChunkFits, MayBeWritten, ChunkIsWithin, IsWithin, IsClean, with_packet}
+use Rattle.packet_frames.specs.Written.{Carried, frame_bytes, chunk_bytes, packet_bytes, filled, ChunkFits, MayBeWritten, ChunkIsWithin, IsWithin, IsClean, with_packet, IsThatPacket}
 use Rattle.packet_frames.proofs.Frames.{frames-main, frames-chunk}
 use Rattle.packet_frames.proofs.Fronts.{begins-front, IsPacketFront}
 use Rattle.packet_frames.proofs.Streams.{read_on-append, read_on-fault, waiting, read_part, read_whole}
@@ -155,3 +155,11 @@ some_fault (Some f) some = (f, refl)
 
 pub stays_at_fault : (limit : ℕ) (s : Stream) (bytes : List ℕ) → s.fault ≢ None → read_on limit s bytes ≡ s
 stays_at_fault limit s bytes some = let f = some_fault s.fault some in read_on-fault limit s f.0 bytes f.1
+
+pub packet_bytes_are : (v : Value) (chunk : Option Carried) → chunk_bytes chunk ++ frame_bytes 0 (spelled v) ≡ packet_bytes v chunk
+unfolding packet_bytes
+packet_bytes_are v chunk = refl
+
+-- alone they are this packet and no more
+pub that_packet : (v : Value) (chunk : Option Carried) → MayBeWritten v chunk → IsThatPacket v chunk (packet_bytes v chunk)
+that_packet v chunk may = λ limit w within e. read_written limit (from_place 0) v chunk w may within e (record { fault = refl; rest = refl })
