@@ -24,3 +24,6 @@ pub use laws::{
 };
 pub use next::Next;
 pub use writer::write_packet;
+
+#[cfg(test)]
+mod tests;
