@@ -6,5 +6,6 @@ pub mod Fronts
 pub mod Headers
 pub mod Layers
 pub mod Reading
+pub mod Samples
 pub mod Streams
 pub mod Writing

@@ -1,4 +1,5 @@
-ghost use Rattle.std.specs.Prelude.{◌≤◌, ℕ, ◌<◌};
+ghost use Rattle.std.specs.Prelude.{◌≡◌, ◌≤◌, [], ◌∷◌, IfOk};
+ghost use Rattle.bencode_values.specs.declared.value.Value.TheVariants as V;
 
 use super::*;
 use bencode_values::{Items, Value};
@@ -128,10 +129,7 @@ fn the_packets_are_the_same_in_any_pieces(rt: HostRuntime) -> Result<(), Fail> {
             "35 Chunk(5)",
         ),
         // contents that are no value
-        (
-            b"\x50\x00\x00\x00\x00\x00\x00\x02lx",
-            "9 Payload(Letter)",
-        ),
+        (b"\x50\x00\x00\x00\x00\x00\x00\x02lx", "9 Payload(Letter)"),
         (b"\x50\x00\x00\x00\x00\x00\x00\x01l", "9 Cut"),
         (b"\x50\x00\x00\x00\x00\x00\x00\x00", "8 Cut"),
         (b"\x50\x00\x00\x00\x00\x00\x00\x03lel", "10 Extra"),
@@ -170,20 +168,47 @@ fn the_limit_counts_each_content(rt: HostRuntime) -> Result<(), Fail> {
     Ok(())
 }
 
-/// A list of so many empty strings.
-fn empty_strings(alloc: Global, count: usize) -> Result<Value, Fail> {
+/// A list of two empty strings.
+fn two_empty_strings(alloc: Global) -> Result<Value, Fail>
+    ensures { IfOk result (λ value. value ≡ V.List (V.Bytes [] ∷ V.Bytes [] ∷ [])) }
+{
     let mut items = Items::new(alloc);
-    for _ in 0..count {
-        items.push(Value::Bytes(Bytes::new(Vec::new(alloc))))?;
-    }
+    items.push(Value::Bytes(Bytes::new(Vec::new(alloc))))?;
+    items.push(Value::Bytes(Bytes::new(Vec::new(alloc))))?;
     Ok(Value::List(items))
 }
 
+/// Writes that list with three bytes for its second item.
+fn write_two(alloc: Global) -> Result<Vec<u8>, Fail> {
+    let value = two_empty_strings(alloc)?;
+    let chunk = Chunk {
+        index: 1,
+        bytes: Vec::from_slice(alloc, &[7, 8, 9])?,
+    };
+    let bytes = write_packet(alloc, &value, Some(chunk))?;
+    Ok(bytes)
+}
+
+/// Writes an empty list.
+fn write_empty(alloc: Global) -> Result<Vec<u8>, Fail> {
+    let value = Value::List(Items::new(alloc));
+    let bytes = write_packet(alloc, &value, None)?;
+    Ok(bytes)
+}
+
 #[test]
-fn an_empty_list_is_written_in_ten_bytes(rt: HostRuntime) -> Result<(), Fail> {
-    let value = Value::List(Items::new(rt.alloc()));
-    let bytes = write_packet(rt.alloc(), &value, None)?;
-    assert_eq!(rt; bytes.as_slice(), b"\x50\x00\x00\x00\x00\x00\x00\x02le".as_slice());
+fn packets_are_written_as_they_are_read(rt: HostRuntime) -> Result<(), Fail> {
+    let empty = write_empty(rt.alloc())?;
+    assert_eq!(rt;
+        empty.as_slice(),
+        b"\x50\x00\x00\x00\x00\x00\x00\x02le".as_slice()
+    );
+    let two = write_two(rt.alloc())?;
+    let want =
+        b"\x50\x00\x00\x01\x00\x00\x00\x03\x07\x08\x09\x50\x00\x00\x00\x00\x00\x00\x06l0:0:e";
+    assert_eq!(rt; two.as_slice(), want.as_slice());
+    let answer = told(rt.alloc(), ONE_MIB, two.as_slice(), 1)?;
+    assert_eq!(rt; answer.as_str(), "11 l[] [7, 8, 9] e, 0 unread");
     Ok(())
 }
 
