@@ -9,17 +9,20 @@ use Rattle.bencode_values.specs.declared.reading.Read.TheVariants as R
 use Rattle.bencode_values.specs.declared.reading.Why.{Why}
 use Rattle.bencode_values.specs.Reading.{Reads, BeginsWith}
 use Rattle.bencode_values.proofs.Completing.{AreBytes}
-use Rattle.bencode_values.proofs.Judged.{only}
+use Rattle.bencode_values.specs.Steps.{State, going, ended, feed, answer_of}
+use Rattle.bencode_values.proofs.Contexts.{begin}
+use Rattle.bencode_values.proofs.Runs.{Ran, ran, Stops}
+use Rattle.bencode_values.proofs.Judged.{only, reads}
 use Rattle.bencode_values.proofs.Top.{are_bytes_at}
 use Rattle.packet_frames.specs.declared.fault.FrameFault.TheVariants as F
 use Rattle.packet_frames.specs.Framing.{Chunk, Beginning, wrong, read_of, put_all, main_judged}
 
-bytes-drop : (n : ℕ) (xs : List ℕ) → AreBytes xs → AreBytes (drop n xs)
+pub bytes-drop : (n : ℕ) (xs : List ℕ) → AreBytes xs → AreBytes (drop n xs)
 bytes-drop zero xs h = h
 bytes-drop (suc n) [] h = tt
 bytes-drop (suc n) (x ∷ xs) h = bytes-drop n xs h.1
 
-bytes-take : (n : ℕ) (xs : List ℕ) → AreBytes xs → AreBytes (take n xs)
+pub bytes-take : (n : ℕ) (xs : List ℕ) → AreBytes xs → AreBytes (take n xs)
 bytes-take zero xs h = tt
 bytes-take (suc n) [] h = tt
 bytes-take (suc n) (x ∷ xs) h = (h.0, bytes-take n xs h.1)
@@ -56,3 +59,15 @@ module _ (at end : ℕ) (chunks : List Chunk) (content : List ℕ) (there : at +
 
 pub length-content : (bytes : List ℕ) (i j : ℕ) → i ≤ j → j ≤ length bytes → length (slice_range bytes i j) ≡ j - i
 length-content bytes i j order within = length-take-le (j - i) (drop i bytes) (simp length-drop (omega arith))
+
+no_want : (bytes : List ℕ) (s : State) → AreBytes bytes → feed begin bytes ≡ s → answer_of s ≢ R.NoMemory
+no_want bytes (going n opens token) small e none = absurd (let h : R.Short ≡ R.NoMemory = none in cc)
+no_want bytes (ended (R.Whole v n)) small e none = absurd (let h : R.Whole v n ≡ R.NoMemory = none in cc)
+no_want bytes (ended R.Short) small e none = absurd (let h : R.Short ≡ R.NoMemory = none in cc)
+no_want bytes (ended (R.Bad place why)) small e none = absurd (let h : R.Bad place why ≡ R.NoMemory = none in cc)
+no_want bytes (ended R.NoMemory) small e none = absurd (subst (λ t. Ran t bytes) e (ran bytes small)).after
+
+-- a content reads as the grammar says, and never as want of memory
+pub content_reads : (content : List ℕ) → AreBytes content → Reads content (read_of content) × (read_of content ≢ R.NoMemory)
+unfolding read_of
+content_reads content small = (reads content small, no_want content (feed begin content) small refl)

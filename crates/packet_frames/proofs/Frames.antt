@@ -71,7 +71,7 @@ map_push : {A B : Type 0} (f : A → B) (xs : List A) (x : A) → map f (xs ++ x
 map_push f [] x = refl
 map_push f (y ∷ xs) x = ap (λ ys. f y ∷ ys) (map_push f xs x)
 
-length_of_map : {A B : Type 0} (f : A → B) (xs : List A) → length (map f xs) ≡ length xs
+pub length_of_map : {A B : Type 0} (f : A → B) (xs : List A) → length (map f xs) ≡ length xs
 length_of_map f [] = refl
 length_of_map f (x ∷ xs) = ap suc (length_of_map f xs)
 

@@ -1,7 +1,16 @@
 // What holds of all streams.
-ghost use Rattle.std.specs.Prelude.{◌≡◌, ◌≢◌, ℕ, List, ◌++◌, None};
+ghost use Rattle.std.specs.Prelude.{◌≡◌, ◌≢◌, ◌<◌, ℕ, List, ◌++◌, None};
+ghost use Rattle.std.specs.List.{AllByRecursion};
+ghost use Rattle.bencode_values.specs.Reading.{Reads};
+ghost use Rattle.bencode_values.specs.declared.reading.Read.TheVariants as R;
+ghost use Rattle.packet_frames.specs.Framing.{read_of};
 ghost use Rattle.packet_frames.specs.Stream.{Stream, read_on};
 ghost use Rattle.packet_frames.specs.Written.{WrittenFollows, PartAddsNone};
+
+/// What a content reads as is what the bencode reader's contract says of it, and never want of memory.
+pub fn a_content_reads_as_its_grammar_says()
+    ensures { (content : List ℕ) → AllByRecursion (λ byte. byte < 256) content → Reads content (read_of content) × (read_of content ≢ R.NoMemory) }
+{}
 
 /// A stream may be read in two parts: what follows is read on from what the first part held.
 pub fn appending_reads_on()
