@@ -1,5 +1,5 @@
 -- What a content reads as.
-use Rattle.std.proofs.Common.{◌≡◌, ◌≢◌, ◌⊎◌, inl, inr, ℕ, zero, suc, ◌+◌, ◌-◌, ◌<◌, ◌≤◌, Bool, true, false, List, [], ◌∷◌, ◌++◌, length, take, drop, get_or, refl, sym, ap, subst, ◌∙◌, arith}
+use Rattle.std.proofs.Common.{◌≡◌, ◌≢◌, ◌⊎◌, inl, inr, ℕ, zero, suc, ◌+◌, ◌-◌, ◌<◌, ◌≤◌, true, false, List, [], ◌∷◌, length, take, drop, get_or, refl, ap, subst, ◌∙◌, arith}
 use Rattle.std.specs.Prelude.{◌==◌, slice_range, if◌then◌else◌}
 use Rattle.std.proofs.lemmas.Bool.Decides.{nat_tests}
 use Rattle.std.proofs.lemmas.List.{length-drop, length-take-le}
@@ -7,15 +7,15 @@ use Rattle.bencode_values.specs.declared.value.Value.{Value}
 use Rattle.bencode_values.specs.declared.reading.Read.{Read}
 use Rattle.bencode_values.specs.declared.reading.Read.TheVariants as R
 use Rattle.bencode_values.specs.declared.reading.Why.{Why}
-use Rattle.bencode_values.specs.Reading.{Reads, BeginsWith}
+use Rattle.bencode_values.specs.Reading.{Reads}
 use Rattle.bencode_values.proofs.Completing.{AreBytes}
 use Rattle.bencode_values.specs.Steps.{State, going, ended, feed, answer_of}
 use Rattle.bencode_values.proofs.Contexts.{begin}
-use Rattle.bencode_values.proofs.Runs.{Ran, ran, Stops}
+use Rattle.bencode_values.proofs.Runs.{Ran, ran}
 use Rattle.bencode_values.proofs.Judged.{only, reads}
 use Rattle.bencode_values.proofs.Top.{are_bytes_at}
 use Rattle.packet_frames.specs.declared.fault.FrameFault.TheVariants as F
-use Rattle.packet_frames.specs.Framing.{Chunk, Beginning, wrong, read_of, put_all, main_judged}
+use Rattle.packet_frames.specs.Framing.{Chunk, wrong, read_of, put_all, main_judged}
 
 pub bytes-drop : (n : ℕ) (xs : List ℕ) → AreBytes xs → AreBytes (drop n xs)
 bytes-drop zero xs h = h

@@ -8,7 +8,7 @@ use Rattle.packet_frames.specs.declared.fault.FrameFault.{FrameFault}
 use Rattle.packet_frames.specs.declared.fault.FrameFault.TheVariants as F
 use Rattle.packet_frames.specs.Header.{head_of}
 use Rattle.packet_frames.specs.Framing.{Chunk, put_or_wrong, put_all, read_of, frames, begins}
-use Rattle.packet_frames.specs.Stream.{Stream, Packet, Fault, judged, push, read_on, packets_of}
+use Rattle.packet_frames.specs.Stream.{Stream, Fault, judged, push, read_on, packets_of}
 use Rattle.packet_frames.proofs.Layers.{out-Bytes, put_in-fit, put_in-misfit, put_in-Bytes, empty_string}
 
 -- what a stream of one MiB at most a frame holds: the places of its packets, how many bytes are left, and the fault

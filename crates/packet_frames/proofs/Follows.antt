@@ -1,5 +1,5 @@
 -- What a framer's answers say, by what its bytes begin with.
-use Rattle.std.proofs.Common.{◌≡◌, ◌≢◌, ℕ, ◌+◌, ◌-◌, ◌<◌, ◌≤◌, Bool, true, false, List, [], ◌∷◌, ◌++◌, length, take, drop, refl, sym, ap, subst, ◌∙◌, arith, append_assoc}
+use Rattle.std.proofs.Common.{◌≡◌, ℕ, ◌<◌, Bool, true, false, List, [], ◌∷◌, ◌++◌, length, take, drop, refl, sym, ap, subst, ◌∙◌, arith, append_assoc}
 use Rattle.std.specs.Prelude.{Option, Some, None, is_some}
 use Rattle.std.proofs.lemmas.List.{append-nil, take-append-drop, length-take-le}
 use Rattle.xp_base.specs.Counts.{count_sum}
@@ -12,7 +12,7 @@ use Rattle.packet_frames.specs.Framing.{part, whole, wrong, frames, begins}
 use Rattle.packet_frames.specs.Stream.{Packet, Fault, Stream, from_place, read_on, packets_of}
 use Rattle.packet_frames.specs.Following.{Framing, left_of, behind, Follows, fed, Gives, Tells}
 use Rattle.packet_frames.specs.Framers.{IsFaultOf}
-use Rattle.packet_frames.proofs.Fronts.{begins-front, IsPacketFront}
+use Rattle.packet_frames.proofs.Fronts.{begins-front}
 use Rattle.packet_frames.proofs.Streams.{read_on-append, read_on-fault, read_on-behind, waiting, read_part, read_whole, read_wrong}
 
 abbrev pub framing : ℕ → ℕ → List ℕ → Bool → Framing

@@ -1,9 +1,11 @@
 -- Frames, one after another.
-use Rattle.std.proofs.Common.{◌≡◌, ◌≢◌, ℕ, zero, suc, ◌+◌, ◌-◌, ◌<◌, ◌≤◌, Bool, true, false, List, [], ◌∷◌, ◌++◌, length, take, drop, map, refl, sym, ap, subst, ◌∙◌, arith}
+use Rattle.std.proofs.Common.{◌≡◌, ◌≢◌, ℕ, zero, suc, ◌+◌, ◌-◌, ◌*◌, ◌<◌, ◌≤◌, Bool, true, false, List, [], ◌∷◌, ◌++◌, length, take, drop, map, refl, sym, ap, ◌∙◌, arith}
 use Rattle.std.specs.Prelude.{nat_lt, ◌==◌, All, slice_range, if◌then◌else◌, Result, Ok, Err, IfOk}
 use Rattle.std.proofs.lemmas.Bool.Decides.{nat_tests}
-use Rattle.std.proofs.lemmas.List.{length-append, length-drop, length-take-le, take-append-le, drop-append-le, drop-drop, take-append-drop, append-nil}
+use Rattle.std.proofs.lemmas.List.{length-append, length-drop, take-append-le, drop-append-le, drop-drop, append-nil}
 use Rattle.std.proofs.Math.Seq.{take-length}
+use Rattle.std.proofs.Math.Nat.{mul-le-mul_left}
+use Rattle.packet_frames.proofs.Bounds.{head-part}
 use Rattle.std.proofs.lemmas.List.Elements.{All-nil, All-push}
 use Rattle.packet_frames.specs.declared.ahead.Ahead.{Ahead}
 use Rattle.packet_frames.specs.declared.begun.Begun.{Begun}
@@ -12,15 +14,16 @@ use Rattle.packet_frames.specs.declared.fault.FrameFault.{FrameFault}
 use Rattle.packet_frames.specs.declared.head.Head.{Head}
 use Rattle.packet_frames.specs.declared.head.Head.TheVariants as H
 use Rattle.packet_frames.specs.Header.{head_of, head_at}
-use Rattle.packet_frames.specs.Framing.{Chunk, Beginning, part, whole, wrong, read_of, main_judged, content_judged, frame_judged, nothing_more, indexes, frames, begins}
+use Rattle.packet_frames.specs.Framing.{Chunk, Beginning, part, wrong, read_of, main_judged, content_judged, frame_judged, nothing_more, indexes, frames, begins}
 use Rattle.packet_frames.specs.Begins.{chunk_in, LiesIn, Says, BeginsAs}
-use Rattle.packet_frames.proofs.Headers.{head_is, head-stays, head-front, head-whole, IsHeader, last_is_main}
+use Rattle.packet_frames.proofs.Headers.{head_is, head-front, head-whole, IsHeader, last_is_main}
 
 -- the loop's meaning
 pub record Goes (limit : ℕ) (bytes : List ℕ) (at : ℕ) (chunks : List Ahead) : Type 0 where
   pub room : ℕ
   pub few : room + length chunks ≡ 4
   pub within : at ≤ length bytes
+  pub far : at ≤ (limit + 8) * length chunks
   pub lie : All (LiesIn bytes) chunks
   pub leads : (next : List ℕ) → begins limit (bytes ++ next) ≡ frames room limit at (map (chunk_in bytes) chunks) (drop at bytes ++ next)
 
@@ -80,7 +83,7 @@ content_is bytes at size = let n : at + 8 + size - (at + 8) ≡ size = omega ari
 
 pub goes_start : (limit : ℕ) (bytes : List ℕ) → Goes limit bytes 0 []
 unfolding begins
-goes_start limit bytes = record { room = 4; few = refl; within = omega arith; lie = All-nil (LiesIn bytes); leads = λ next. refl }
+goes_start limit bytes = record { room = 4; few = refl; within = omega arith; far = omega arith; lie = All-nil (LiesIn bytes); leads = λ next. refl }
 
 module _ (limit : ℕ) (bytes : List ℕ) (at : ℕ) (chunks : List Ahead) (goes : Goes limit bytes at chunks) where
   abbrev ahead : List Chunk
@@ -95,6 +98,13 @@ module _ (limit : ℕ) (bytes : List ℕ) (at : ℕ) (chunks : List Ahead) (goes
   pub goes_part : H.Part ≡ head_at limit (map (λ c. c.index) chunks) (drop at bytes) → (next : List ℕ) → length next < 1 → begins limit (bytes ++ next) ≡ part
   goes_part e [] short = ap (begins limit) (append-nil bytes) ∙ goes_here ∙ frames-part goes.room limit at ahead (drop at bytes) (says (drop at bytes) H.Part e)
   goes_part e (b ∷ next) short = absurd (omega arith)
+
+  pub goes_least : H.Part ≡ head_at limit (map (λ c. c.index) chunks) (drop at bytes) → length bytes + 1 ≤ 5 * (limit + 8)
+  goes_least e =
+      let eight = head-part limit (indexes ahead) (drop at bytes) (says (drop at bytes) H.Part e) in let there = length-drop at bytes in
+      let before = goes.far in let within = goes.within in
+      let most : (limit + 8) * length chunks ≤ (limit + 8) * 4 = mul-le-mul_left (limit + 8) (let few = goes.few in omega arith) in
+      omega arith
 
   pub goes_wrong : (place : ℕ) (kind : FrameFault) → H.Wrong place kind ≡ head_at limit (map (λ c. c.index) chunks) (drop at bytes) → begins limit bytes ≡ wrong (at + place) kind
   goes_wrong place kind e = goes_here ∙ frames-wrong goes.room limit at ahead (drop at bytes) place kind (says (drop at bytes) (H.Wrong place kind) e)
@@ -111,6 +121,13 @@ module _ (limit : ℕ) (bytes : List ℕ) (at : ℕ) (chunks : List Ahead) (goes
         let within = goes.within in let eight = header.long in
         goes.leads next ∙ frames-short goes.room limit at ahead (drop at bytes ++ next) index size (further next)
         (let there = length-drop at bytes in let all = length-append (drop at bytes) next in omega arith)
+
+    pub goes_room : length bytes - at - 8 < size → length bytes + (size - (length bytes - at - 8)) ≤ 5 * (limit + 8)
+    goes_room short =
+        let within = goes.within in let eight = header.long in let there = length-drop at bytes in
+        let small = header.small in let before = goes.far in
+        let most : (limit + 8) * length chunks ≤ (limit + 8) * 4 = mul-le-mul_left (limit + 8) (let few = goes.few in omega arith) in
+        omega arith
 
     pub goes_main : index ≡ 0 → size ≤ length bytes - at - 8 → begins limit bytes ≡ main_judged at (at + 8 + size - (at + 8)) ahead (read_of (slice_range bytes (at + 8) (at + 8 + size)))
     goes_main main long =
@@ -133,6 +150,7 @@ module _ (limit : ℕ) (bytes : List ℕ) (at : ℕ) (chunks : List Ahead) (goes
           room = room;
           few = let n = length-append chunks (newest ∷ []) in omega arith;
           within = omega arith;
+          far = let n = length-append chunks (newest ∷ []) in let small = header.small in let before = goes.far in omega (arith, ap (λ k. (limit + 8) * k) n);
           lie = All-push (LiesIn bytes) chunks newest goes.lie (record { header = omega arith; content = omega arith });
           leads = λ next.
               let all = length-append (drop at bytes) next in

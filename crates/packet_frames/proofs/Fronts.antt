@@ -1,20 +1,18 @@
 -- Where a packet ends.
-use Rattle.std.proofs.Common.{◌≡◌, ◌≢◌, ◌⊎◌, inl, inr, ℕ, zero, suc, ◌+◌, ◌-◌, ◌<◌, ◌≤◌, Bool, true, false, List, [], ◌∷◌, ◌++◌, length, take, drop, map, refl, sym, ap, subst, ◌∙◌, arith, append_assoc}
+use Rattle.std.proofs.Common.{◌≡◌, ◌≢◌, ◌⊎◌, inl, inr, ℕ, zero, suc, ◌+◌, ◌<◌, ◌≤◌, Bool, true, false, List, [], ◌∷◌, ◌++◌, length, take, drop, refl, sym, ap, subst, ◌∙◌, arith, append_assoc}
 use Rattle.std.specs.Prelude.{◌==◌, Option, Some, None, if◌then◌else◌}
 use Rattle.std.proofs.lemmas.Bool.{cases_lt, cases_eq}
-use Rattle.std.proofs.lemmas.Bool.Decides.{nat_tests}
 use Rattle.std.proofs.lemmas.List.{length-append, length-drop, length-take-le, take-append-le, drop-append-le, drop-drop, take-append-drop, append-nil}
 use Rattle.std.proofs.Math.Seq.{drop-append_seam, take-append_seam}
 use Rattle.bencode_values.specs.declared.value.Value.{Value}
 use Rattle.bencode_values.specs.declared.reading.Read.{Read}
 use Rattle.bencode_values.specs.declared.reading.Read.TheVariants as R
-use Rattle.packet_frames.specs.declared.fault.FrameFault.{FrameFault}
 use Rattle.packet_frames.specs.declared.fault.FrameFault.TheVariants as F
 use Rattle.packet_frames.specs.declared.head.Head.{Head}
 use Rattle.packet_frames.specs.declared.head.Head.TheVariants as H
 use Rattle.packet_frames.specs.Header.{head_of}
 use Rattle.packet_frames.specs.Framing.{Chunk, Beginning, part, whole, wrong, put_in, put_or_wrong, put_all, read_of, main_judged, indexes, frames, begins}
-use Rattle.packet_frames.proofs.Headers.{head-front, head-whole, IsHeader}
+use Rattle.packet_frames.proofs.Headers.{head-front}
 use Rattle.packet_frames.proofs.Frames.{frames-part, frames-wrong, frames-short, frames-main, frames-chunk, frames-none}
 
 -- the bytes of the packet, and that it is there however they go on

@@ -1,11 +1,11 @@
 -- Headers, by the places of their bytes.
-use Rattle.std.proofs.Common.{◌≡◌, ◌≢◌, ℕ, zero, suc, ◌+◌, ◌<◌, ◌≤◌, Bool, true, false, List, [], ◌∷◌, ◌++◌, length, refl, sym, ap, subst, ◌∙◌, arith}
+use Rattle.std.proofs.Common.{◌≡◌, ◌≢◌, ℕ, ◌<◌, ◌≤◌, Bool, true, false, List, [], ◌∷◌, ◌++◌, length, refl, subst, arith}
 use Rattle.std.specs.Prelude.{nat_le, ◌==◌, ◌||◌, if◌then◌else◌}
 use Rattle.std.proofs.lemmas.Bool.Decides.{nat_tests}
 use Rattle.packet_frames.specs.declared.fault.FrameFault.{FrameFault}
 use Rattle.packet_frames.specs.declared.head.Head.{Head}
 use Rattle.packet_frames.specs.declared.head.Head.TheVariants as H
-use Rattle.packet_frames.specs.Header.{head_of, head_at, size_of, size_bytes, size_at, index_byte, level_byte, flags_byte, may_come}
+use Rattle.packet_frames.specs.Header.{head_of, head_at, size_of, size_bytes, index_byte, level_byte, flags_byte, may_come}
 
 longer : (k n : ℕ) → k < n → nat_le n k ≡ false
 longer k n h = grind (arith, nat_tests)

@@ -1,7 +1,7 @@
 -- One layer of a value.
-use Rattle.std.proofs.Common.{◌≡◌, ℕ, zero, suc, ◌<◌, Bool, true, false, List, [], ◌∷◌, length, refl, sym, ap, ◌∙◌, arith}
+use Rattle.std.proofs.Common.{◌≡◌, ℕ, zero, suc, ◌<◌, true, false, List, [], ◌∷◌, length, sym, ap, ◌∙◌, arith}
 use Rattle.std.proofs.lemmas.Bool.{false≢true}
-use Rattle.std.specs.Prelude.{ℤ, Option, Some, None, slice_get, slice_set, if◌then◌else◌}
+use Rattle.std.specs.Prelude.{ℤ, Some, None, slice_get, slice_set, if◌then◌else◌}
 use Rattle.bencode_values.specs.declared.value.Value.{Value, out-Value, out-roll-Value}
 use Rattle.bencode_values.specs.declared.value.Value.TheVariants as V
 use Rattle.bencode_values.specs.declared.value.Value.TheOpen.{Value-F}

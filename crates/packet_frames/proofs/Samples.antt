@@ -1,13 +1,13 @@
 -- Packets that the tests write.
-use Rattle.std.proofs.Common.{◌≡◌, ◌≢◌, ℕ, ◌<◌, ◌^◌, Bool, true, false, List, [], ◌∷◌, length, refl, sym, ap, ◌∙◌, arith}
+use Rattle.std.proofs.Common.{◌≡◌, ◌≢◌, ℕ, ◌<◌, ◌^◌, List, [], ◌∷◌, length, refl, arith}
 use Rattle.std.specs.Prelude.{Option, Some, None}
 use Rattle.std.specs.Fmt.{digits}
 use Rattle.bencode_values.specs.declared.value.Value.{Value}
 use Rattle.bencode_values.specs.declared.value.Value.TheVariants as V
-use Rattle.bencode_values.specs.Grammar.{spelled, Fits, IsWithinLimits}
+use Rattle.bencode_values.specs.Grammar.{spelled, Fits}
 use Rattle.bencode_values.proofs.Values.{fits-Bytes, fits-List, spelled-Bytes, spelled-List}
 use Rattle.packet_frames.specs.Framing.{put_in}
-use Rattle.packet_frames.specs.Written.{Carried, MayBeWritten}
+use Rattle.packet_frames.specs.Written.{MayBeWritten}
 use Rattle.packet_frames.proofs.Layers.{out-Bytes, put_in-fit, empty_string}
 
 pub empty_list : MayBeWritten (V.List []) None

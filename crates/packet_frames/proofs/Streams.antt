@@ -1,7 +1,7 @@
 -- Streams, by what the bytes behind the last packet begin with.
-use Rattle.std.proofs.Common.{◌≡◌, ◌≢◌, ◌⊎◌, inl, inr, ℕ, zero, suc, ◌+◌, ◌-◌, ◌<◌, ◌≤◌, Bool, true, false, List, [], ◌∷◌, ◌++◌, length, take, drop, refl, sym, ap, subst, ◌∙◌, arith, append_assoc}
+use Rattle.std.proofs.Common.{◌≡◌, ℕ, ◌<◌, List, [], ◌∷◌, ◌++◌, length, refl, sym, ap, subst, ◌∙◌, arith, append_assoc}
 use Rattle.std.specs.Prelude.{Option, Some, None}
-use Rattle.std.proofs.lemmas.List.{length-append, length-take-le, append-nil}
+use Rattle.std.proofs.lemmas.List.{length-append, append-nil}
 use Rattle.xp_base.specs.Counts.{count_sum}
 use Rattle.bencode_values.specs.declared.value.Value.{Value}
 use Rattle.packet_frames.specs.declared.fault.FrameFault.{FrameFault}
@@ -9,7 +9,7 @@ use Rattle.packet_frames.specs.Framing.{Beginning, part, whole, wrong, begins}
 use Rattle.packet_frames.specs.Stream.{Packet, Fault, Stream, judged, push_where, push, read_on}
 use Rattle.packet_frames.specs.Following.{behind}
 use Rattle.packet_frames.proofs.Reading.{begins-stays}
-use Rattle.packet_frames.proofs.Fronts.{begins-front, IsPacketFront}
+use Rattle.packet_frames.proofs.Fronts.{begins-front}
 
 -- appending reads on
 pub read_on-append : (limit : ℕ) (s : Stream) (xs ys : List ℕ) → read_on limit s (xs ++ ys) ≡ read_on limit (read_on limit s xs) ys

@@ -1,23 +1,21 @@
 -- The bytes of a written packet.
-use Rattle.std.proofs.Common.{◌≡◌, ◌≢◌, ℕ, zero, suc, ◌+◌, ◌-◌, ◌*◌, ◌/◌, ◌%◌, ◌^◌, ◌<◌, ◌≤◌, Bool, true, false, List, [], ◌∷◌, ◌++◌, length, take, drop, refl, sym, ap, subst, ◌∙◌, arith, append_assoc}
-use Rattle.std.specs.Prelude.{◌==◌, nat_le, Option, Some, None, if◌then◌else◌}
+use Rattle.std.proofs.Common.{◌≡◌, ◌≢◌, ℕ, ◌+◌, ◌/◌, ◌%◌, ◌^◌, ◌<◌, ◌≤◌, true, List, [], ◌∷◌, ◌++◌, length, take, drop, refl, sym, ap, ◌∙◌, arith}
+use Rattle.std.specs.Prelude.{◌==◌, nat_le, Option, Some, None}
 use Rattle.std.proofs.lemmas.Bool.Decides.{nat_tests}
 use Rattle.std.proofs.lemmas.List.{length-append, append-nil}
-use Rattle.std.proofs.Math.Seq.{take-append_seam, drop-append_seam, take-length}
-use Rattle.xp_base.specs.Counts.{count_sum}
+use Rattle.std.proofs.Math.Seq.{take-append_seam, drop-append_seam}
 use Rattle.bencode_values.specs.declared.value.Value.{Value}
 use Rattle.bencode_values.specs.declared.reading.Read.TheVariants as R
 use Rattle.bencode_values.specs.Grammar.{spelled, IsWithinLimits}
 use Rattle.bencode_values.specs.Steps.{answer_of}
 use Rattle.bencode_values.proofs.Runs.{value_read}
-use Rattle.packet_frames.specs.declared.head.Head.{Head}
 use Rattle.packet_frames.specs.declared.head.Head.TheVariants as H
 use Rattle.packet_frames.specs.Header.{head_of, size_of, may_come}
 use Rattle.packet_frames.specs.Framing.{Chunk, Beginning, part, whole, wrong, read_of, main_judged, put_in, put_or_wrong, put_all, indexes, frames, begins}
-use Rattle.packet_frames.specs.Stream.{Packet, Fault, Stream, from_place, read_on, packets_of}
-use Rattle.packet_frames.specs.Written.{Carried, frame_bytes, chunk_bytes, packet_bytes, filled, ChunkFits, MayBeWritten, ChunkIsWithin, IsWithin, IsClean, with_packet, IsThatPacket}
+use Rattle.packet_frames.specs.Stream.{Fault, Stream, from_place, read_on, packets_of}
+use Rattle.packet_frames.specs.Written.{Carried, frame_bytes, chunk_bytes, packet_bytes, filled, ChunkFits, MayBeWritten, IsWithin, IsClean, with_packet, IsThatPacket}
 use Rattle.packet_frames.proofs.Frames.{frames-main, frames-chunk}
-use Rattle.packet_frames.proofs.Fronts.{begins-front, IsPacketFront}
+use Rattle.packet_frames.proofs.Fronts.{begins-front}
 use Rattle.packet_frames.proofs.Streams.{read_on-append, read_on-fault, waiting, read_part, read_whole}
 use Rattle.packet_frames.proofs.Reading.{begins-stays}
 

@@ -1,8 +1,8 @@
 -- A framer: what it has been fed and has not given yet, and what its answers say of all bytes that it was ever fed.
-use Rattle.std.specs.Prelude.{◌≡◌, ℕ, ◌≤◌, Bool, true, false, Option, Some, None, List, [], ◌∷◌, ◌++◌, length, take, drop, if◌then◌else◌}
+use Rattle.std.specs.Prelude.{◌≡◌, ℕ, ◌+◌, ◌*◌, ◌≤◌, ◌<◌, Bool, true, false, Some, None, List, [], ◌∷◌, ◌++◌, length, take, drop, if◌then◌else◌}
 use Rattle.packet_frames.specs.declared.next.Next.{Next}
 use Rattle.packet_frames.specs.declared.next.Next.TheVariants as N
-use Rattle.packet_frames.specs.Stream.{Packet, Fault, Stream, from_place, read_on, packets_of}
+use Rattle.packet_frames.specs.Stream.{Packet, Stream, from_place, read_on, packets_of}
 
 -- The limit, the place of the first byte that belongs to no packet given, the bytes from there on, and whether it
 -- answered a fault.
@@ -52,3 +52,10 @@ Tells bytes given (N.Bad place kind) new =
     ((packets_of new.limit bytes).packets ≡ given) × ((packets_of new.limit bytes).fault ≡ Some (record { place = place; kind = kind }))
     × Follows bytes given new
 Tells bytes given N.NoMemory new = Follows bytes given new
+
+-- where more is needed, what is unread is short of four chunks and a main packet, with their headers
+abbrev pub IsShortAt : Next → Framing → Type 0
+IsShortAt (N.Packet place value) new = Unit {0}
+IsShortAt N.Need new = length new.rest < 5 * (new.limit + 8)
+IsShortAt (N.Bad place kind) new = Unit {0}
+IsShortAt N.NoMemory new = Unit {0}

@@ -1,6 +1,6 @@
 -- The packets of a stream of bytes. It is read byte by byte: after each byte it is asked whether the bytes behind
 -- the last packet are a whole packet, a fault or neither. So a stream has the same packets in whatever pieces it comes.
-use Rattle.std.specs.Prelude.{◌≡◌, ℕ, Option, Some, None, List, [], ◌∷◌, ◌++◌, length}
+use Rattle.std.specs.Prelude.{ℕ, Option, Some, None, List, [], ◌∷◌, ◌++◌}
 use Rattle.xp_base.specs.Counts.{count_sum}
 use Rattle.bencode_values.specs.declared.value.Value.{Value}
 use Rattle.packet_frames.specs.declared.fault.FrameFault.{FrameFault}

@@ -1,10 +1,10 @@
 -- The bytes of a packet as this product writes them: flags 0, level 0, and at most one chunk ahead.
-use Rattle.std.specs.Prelude.{◌≡◌, ◌≢◌, ℕ, ◌+◌, ◌*◌, ◌/◌, ◌%◌, ◌^◌, ◌≤◌, ◌<◌, Option, Some, None, List, [], ◌∷◌, ◌++◌, length}
+use Rattle.std.specs.Prelude.{◌≡◌, ◌≢◌, ℕ, ◌/◌, ◌%◌, ◌^◌, ◌≤◌, ◌<◌, Option, Some, None, List, [], ◌∷◌, ◌++◌, length}
 use Rattle.xp_base.specs.Counts.{count_sum}
 use Rattle.bencode_values.specs.declared.value.Value.{Value}
 use Rattle.bencode_values.specs.Grammar.{spelled, IsWithinLimits}
 use Rattle.packet_frames.specs.Framing.{put_in}
-use Rattle.packet_frames.specs.Stream.{Packet, Stream, packets_of}
+use Rattle.packet_frames.specs.Stream.{Stream, packets_of}
 
 -- a chunk to write: the item that it stands for, and its bytes
 pub record Carried : Type 0 where

@@ -1,6 +1,6 @@
 // Packets of a stream that comes in pieces.
 ghost use Rattle.std.specs.Prelude.{◌≡◌, ℕ, List, [], ◌++◌, OnOk, OnErr, length, false};
-ghost use Rattle.packet_frames.specs.Following.{Framing, Follows, fed, Gives, Tells};
+ghost use Rattle.packet_frames.specs.Following.{Framing, Follows, fed, Gives, Tells, IsShortAt};
 ghost use Rattle.packet_frames.specs.Stream.{Packet};
 
 use crate::begun::Begun;
@@ -75,15 +75,18 @@ impl Framer {
         ensures gives { Gives self.old result self.new }
         // What that says of all bytes so far, however they were cut.
         ensures history { (bytes : List ℕ) (given : List Packet) → Follows bytes given self.old → Tells bytes given result self.new }
+        // So a packet that is not whole never holds more than that.
+        ensures short { IsShortAt result self.new }
     {
         if let Some((place, fault)) = self.fault {
             return Next::Bad(place, fault);
         }
+        let rest = &self.buffer[self.taken..];
         if self.wanted > 0 {
             return Next::Need;
         }
         let alloc = *self.buffer.allocator();
-        match packet_in(alloc, self.limit, &self.buffer[self.taken..]) {
+        match packet_in(alloc, self.limit, rest) {
             Ok(Begun::Whole(at, value, size)) => {
                 let place = self.start.saturating_add(at as u64);
                 self.start = self.start.saturating_add(size as u64);

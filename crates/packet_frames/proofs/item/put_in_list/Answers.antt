@@ -1,6 +1,4 @@
-use Rattle.std.proofs.Common.{sym, ◌∙◌, ap}
-use Rattle.std.specs.Prelude.{Some}
-use Rattle.bencode_values.specs.declared.value.Value.TheVariants as V
+use Rattle.std.proofs.Common.{sym}
 use Rattle.packet_frames.proofs.Layers.{put_in-fit, put_in-misfit, item_there}
 use Rattle.packet_frames.proofs.item.put_in_list.Goals as goal
 

@@ -1,7 +1,6 @@
-use Rattle.std.proofs.Common.{◌≡◌, ◌≢◌, ◌+◌, ◌-◌, ◌≤◌, ℕ, List, map, length, sym, subst, arith}
+use Rattle.std.proofs.Common.{◌+◌, ◌≤◌, map, length, sym, subst, arith}
 use Rattle.std.specs.Prelude.{IfOk, slice_range}
 use Rattle.bencode_values.specs.declared.reading.Read.TheVariants as R
-use Rattle.packet_frames.specs.Framing.{Chunk}
 use Rattle.packet_frames.specs.Begins.{Says, chunk_in}
 use Rattle.packet_frames.proofs.Contents.{read_is, main-short, main-bad, main-extra, main-whole, length-content}
 use Rattle.packet_frames.proofs.main_packet.main_in.Goals as goal

@@ -1,4 +1,4 @@
-use Rattle.std.proofs.Common.{◌≡◌, ◌<◌, ◌^◌, length, ap, subst, arith}
+use Rattle.std.proofs.Common.{◌<◌, ◌^◌, length, ap, arith}
 use Rattle.packet_frames.specs.Written.{Carried}
 use Rattle.packet_frames.proofs.writer.push_chunk.Goals as goal
 

@@ -1,5 +1,5 @@
-use Rattle.std.proofs.Common.{◌≡◌, List, ℕ, ◌++◌, sym, ap, subst, ◌∙◌}
-use Rattle.packet_frames.specs.Written.{chunk_bytes, frame_bytes, packet_bytes, IsThatPacket}
+use Rattle.std.proofs.Common.{List, ℕ, ◌++◌, sym, ap, subst, ◌∙◌}
+use Rattle.packet_frames.specs.Written.{chunk_bytes, frame_bytes, IsThatPacket}
 use Rattle.packet_frames.proofs.Writing.{packet_bytes_are, that_packet}
 use Rattle.packet_frames.proofs.writer.write_packet.Goals as goal
 

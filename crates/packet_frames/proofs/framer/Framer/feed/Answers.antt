@@ -1,8 +1,6 @@
 use Rattle.std.proofs.Common.{◌≡◌, true, ◌++◌, drop, ap, sym, subst, ◌∙◌, arith}
-use Rattle.std.specs.Prelude.{is_some}
 use Rattle.std.proofs.lemmas.Grind.{common_steps}
-use Rattle.packet_frames.specs.Stream.{Packet, Fault}
-use Rattle.packet_frames.specs.Following.{Framing, left_of, Follows, fed}
+use Rattle.packet_frames.specs.Following.{Framing, Follows}
 use Rattle.packet_frames.proofs.Follows.{known_fault, follows_stopped, follows_fed}
 use Rattle.packet_frames.proofs.framer.Framer.feed.Goals as goal
 

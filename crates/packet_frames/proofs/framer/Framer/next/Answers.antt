@@ -1,13 +1,12 @@
-use Rattle.std.proofs.Common.{◌≡◌, ◌+◌, ◌<◌, ◌≤◌, List, ℕ, true, [], length, drop, refl, sym, ap, ◌∙◌, subst, arith}
-use Rattle.std.specs.Prelude.{Some, None, is_some, slice_range}
+use Rattle.std.proofs.Common.{◌≡◌, ◌+◌, ◌*◌, ◌<◌, true, [], length, drop, sym, ap, ◌∙◌, subst, arith}
+use Rattle.std.specs.Prelude.{is_some, slice_range}
 use Rattle.std.proofs.lemmas.List.{append-nil, drop-drop, length-drop}
 use Rattle.packet_frames.specs.declared.next.Next.TheVariants as N
 use Rattle.packet_frames.specs.Framing.{part, whole, wrong, begins}
 use Rattle.packet_frames.specs.Begins.{BeginsAs}
-use Rattle.packet_frames.specs.Framers.{IsFaultOf}
 use Rattle.packet_frames.specs.Following.{Framing, Gives}
 use Rattle.packet_frames.proofs.Frames.{to_end}
-use Rattle.packet_frames.proofs.Fronts.{begins-front, IsPacketFront}
+use Rattle.packet_frames.proofs.Fronts.{begins-front}
 use Rattle.packet_frames.proofs.Follows.{framing, gives_need, gives_bad, gives_again, gives_packet, tells, no_fault}
 use Rattle.packet_frames.proofs.framer.Framer.next.Goals as goal
 
@@ -41,6 +40,7 @@ invariant_of-self c =
     record {
       within = omega (arith, c.deref.ensures.len);
       waits = λ next less. absurd (omega (arith, c.if-self-gt0.false));
+      room = λ more. absurd (omega (arith, c.if-self-gt0.false));
       told = no_fault c.self.inside.limit c.saturating_add-self-inside.result (drop (c.self.inside.taken + c.in-Ok-Whole.size) c.self.inside.buffer.items) c.self.inside.fault c.in_default.not-Some;
     }
 
@@ -80,3 +80,15 @@ returns-in-Ok-Part-clause-gives c =
 pub returns-in-Ok-Part-clause-history : goal.returns-in-Ok-Part-clause-history
 returns-in-Ok-Part-clause-history c = λ bytes given h. tells bytes given c.args.self.now N.Need
     (framing c.self.inside.limit c.self.inside.start (drop c.self.inside.taken c.self.inside.buffer.items) (is_some c.self.inside.fault)) (returns-in-Ok-Part-clause-gives c) h
+
+pub returns-in-Ok-Part-clause-short : goal.returns-in-Ok-Part-clause-short
+returns-in-Ok-Part-clause-short c =
+    let part = subst (BeginsAs c.self.inside.limit (slice_range c.deref.result.now c.self.inside.taken (length c.deref.result.now))) c.in-Ok-Part.field-0-is c.in-Ok-Part.ensures in
+    let more = part.0 in let room = part.2 in
+    let same = ap length (to_end c.deref.result.now c.self.inside.taken ∙ ap (drop c.self.inside.taken) c.deref.ensures.value) in
+    omega arith
+
+pub returns-then-self-gt0-clause-short : goal.returns-then-self-gt0-clause-short
+returns-then-self-gt0-clause-short c =
+    let room = c.self.invariant.room c.if-self-gt0.true in
+    subst (λ (f : Framing). length f.rest < 5 * (f.limit + 8)) c.self.view_is (omega (arith, c.if-self-gt0.true))
