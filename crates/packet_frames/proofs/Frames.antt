@@ -70,7 +70,7 @@ pub indexes_in : (bytes : List ℕ) (chunks : List Ahead) → indexes (map (chun
 indexes_in bytes [] = refl
 indexes_in bytes (c ∷ cs) = ap (λ is. c.index ∷ is) (indexes_in bytes cs)
 
-map_push : {A B : Type 0} (f : A → B) (xs : List A) (x : A) → map f (xs ++ x ∷ []) ≡ map f xs ++ f x ∷ []
+pub map_push : {A B : Type 0} (f : A → B) (xs : List A) (x : A) → map f (xs ++ x ∷ []) ≡ map f xs ++ f x ∷ []
 map_push f [] x = refl
 map_push f (y ∷ xs) x = ap (λ ys. f y ∷ ys) (map_push f xs x)
 

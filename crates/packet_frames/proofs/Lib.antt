@@ -9,4 +9,5 @@ pub mod Layers
 pub mod Reading
 pub mod Samples
 pub mod Streams
+pub mod Taking
 pub mod Writing

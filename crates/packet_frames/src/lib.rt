@@ -13,6 +13,7 @@ mod laws;
 mod main_packet;
 mod next;
 mod packet;
+mod pieces;
 mod writer;
 
 pub use chunk::Chunk;
@@ -23,6 +24,7 @@ pub use laws::{
     appending_reads_on, nothing_is_read_behind_a_fault,
 };
 pub use next::Next;
+pub use pieces::{Held, read_pieces};
 pub use writer::write_packet;
 
 #[cfg(test)]
