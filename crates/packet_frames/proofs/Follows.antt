@@ -89,7 +89,7 @@ tells bytes given old (N.Bad place kind) new h follows =
     let fault : (packets_of old.limit bytes).fault ≡ Some (record { place = place; kind = kind }) = ap (λ (s : Stream). s.fault) follows.all ∙ h.1 in
     let there : Follows bytes given (record old { stopped = true }) = record { all = follows.all } in
     subst (λ (f : Framing). ((packets_of f.limit bytes).packets ≡ given) × ((packets_of f.limit bytes).fault ≡ Some (record { place = place; kind = kind })) × Follows bytes given f) (sym h.2) (packets, fault, there)
-tells bytes given old N.NoMemory new h follows = same_left old new bytes given h.1 follows
+tells bytes given old N.NoMemory new h follows = same_left old new bytes given h follows
 
 -- a piece more
 fed_by : (limit start : ℕ) (rest : List ℕ) (stopped : Bool) (bytes piece : List ℕ) (given : List Packet)

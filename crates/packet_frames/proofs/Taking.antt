@@ -24,7 +24,7 @@ pub gives_limit : (old : Framing) (answer : Next) (new : Framing) → Gives old 
 gives_limit old (N.Packet place v) new h = ap (λ (f : Framing). f.limit) h.3
 gives_limit old N.Need new h = ap (λ (f : Framing). f.limit) h.1
 gives_limit old (N.Bad place kind) new h = ap (λ (f : Framing). f.limit) h.2
-gives_limit old N.NoMemory new h = ap (λ (f : Framing). f.limit) h.1
+gives_limit old N.NoMemory new h = ap (λ (f : Framing). f.limit) h
 
 -- a packet has bytes
 has_bytes : (limit start : ℕ) (rest : List ℕ) (size next : ℕ) (p : Packet) → read_on limit (from_place start) (take size rest) ≡ record { packets = p ∷ []; start = next; rest = []; fault = None } → 0 < size

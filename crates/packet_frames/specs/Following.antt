@@ -30,7 +30,7 @@ abbrev pub fed : Framing → List ℕ → Framing
 fed f piece = if f.stopped then f else record f { rest = f.rest ++ piece }
 
 -- An answer. A packet: the first of its bytes are this packet and no more. Need: its bytes hold no packet and no fault.
--- A fault: no packet stands before it. Want of memory: not after a fault was answered.
+-- A fault: no packet stands before it.
 abbrev pub Gives : Framing → Next → Framing → Type 0
 Gives old (N.Packet place value) new =
     (size : ℕ) × (size ≤ length old.rest)
@@ -40,7 +40,7 @@ Gives old (N.Packet place value) new =
 Gives old N.Need new = (left_of old ≡ record { packets = []; start = old.start; rest = old.rest; fault = None }) × (new ≡ old)
 Gives old (N.Bad place kind) new =
     ((left_of old).packets ≡ []) × ((left_of old).fault ≡ Some (record { place = place; kind = kind })) × (new ≡ record old { stopped = true })
-Gives old N.NoMemory new = (old.stopped ≡ false) × (new ≡ old)
+Gives old N.NoMemory new = new ≡ old
 
 -- The same of all bytes that it was fed, where it gave these packets before: a packet is the next of them; at Need they
 -- are all, and the rest is what is left; a fault is that of the bytes, and they have no packet more.
@@ -59,3 +59,10 @@ IsShortAt (N.Packet place value) new = Unit {0}
 IsShortAt N.Need new = length new.rest < 5 * (new.limit + 8)
 IsShortAt (N.Bad place kind) new = Unit {0}
 IsShortAt N.NoMemory new = Unit {0}
+
+-- after a fault was answered there is no other answer
+abbrev pub KeepsFault : Framing → Next → Type 0
+KeepsFault old (N.Packet place value) = old.stopped ≡ false
+KeepsFault old N.Need = old.stopped ≡ false
+KeepsFault old (N.Bad place kind) = Unit {0}
+KeepsFault old N.NoMemory = old.stopped ≡ false

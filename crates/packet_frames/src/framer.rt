@@ -1,6 +1,6 @@
 // Packets of a stream that comes in pieces.
 ghost use Rattle.std.specs.Prelude.{◌≡◌, ℕ, List, [], ◌++◌, OnOk, OnErr, length, false};
-ghost use Rattle.packet_frames.specs.Following.{Framing, Follows, fed, Gives, Tells, IsShortAt};
+ghost use Rattle.packet_frames.specs.Following.{Framing, Follows, fed, Gives, Tells, KeepsFault, IsShortAt};
 ghost use Rattle.packet_frames.specs.Stream.{Packet};
 
 use crate::begun::Begun;
@@ -75,7 +75,9 @@ impl Framer {
         ensures gives { Gives self.old result self.new }
         // What that says of all bytes so far, however they were cut.
         ensures history { (bytes : List ℕ) (given : List Packet) → Follows bytes given self.old → Tells bytes given result self.new }
-        // So a packet that is not whole never holds more than that.
+        // After a fault was answered it is answered for ever.
+        ensures again { KeepsFault self.old result }
+        // A packet that is not whole never holds more than that.
         ensures short { IsShortAt result self.new }
     {
         if let Some((place, fault)) = self.fault {

@@ -213,6 +213,27 @@ fn packets_are_written_as_they_are_read(rt: HostRuntime) -> Result<(), Fail> {
 }
 
 #[test]
+fn a_whole_stream_is_read_from_its_pieces(rt: HostRuntime) -> Result<(), Fail> {
+    let alloc = rt.alloc();
+    let mut pieces = Vec::new(alloc);
+    for piece in b"\x50\x00\x00\x00\x00\x00\x00\x02le\x50\x00\x00\x00\x00\x00\x00\x03i1e\x50\x00".chunks(
+        4,
+    ) {
+        pieces.push(Bytes::new(Vec::from_slice(alloc, piece)?))?;
+    }
+    let held = read_pieces(alloc, ONE_MIB, pieces.as_slice())?;
+    assert_eq!(rt; held.packets.len(), 2);
+    assert_eq!(rt; held.packets[1].0, 10);
+    assert_eq!(rt; held.fault, None);
+    assert_eq!(rt; held.unread, 2);
+    pieces.push(Bytes::new(Vec::from_slice(alloc, b"\x01le")?))?;
+    let stopped = read_pieces(alloc, ONE_MIB, pieces.as_slice())?;
+    assert_eq!(rt; stopped.packets.len(), 2);
+    assert_eq!(rt; stopped.fault, Some((23, FrameFault::Level(1))));
+    Ok(())
+}
+
+#[test]
 fn a_megabyte_comes_byte_by_byte(rt: HostRuntime) -> Result<(), Fail> {
     let alloc = rt.alloc();
     let mut bytes = Vec::new(alloc);
