@@ -51,3 +51,9 @@ pub item_there : (items : List Value) (index : ℕ) → is_empty_string (slice_g
 item_there [] index h = absurd (false≢true h)
 item_there (v ∷ items) zero h = omega arith
 item_there (v ∷ items) (suc index) h = let there = item_there items index h in omega arith
+
+pub empty_is : (text : List ℕ) → is_empty_string (Some (V.Bytes text)) ≡ is_empty_layer (Value-F.Bytes text)
+empty_is text = ap is_empty_layer (out-Bytes text)
+
+pub no_string : (n : ℤ) (vs : List Value) (ps : List Pair) → (is_empty_string (Some (V.Int n)) ≡ false) × (is_empty_string (Some (V.List vs)) ≡ false) × (is_empty_string (Some (V.Dict ps)) ≡ false)
+no_string n vs ps = (ap is_empty_layer (out-Int n), ap is_empty_layer (out-List vs), ap is_empty_layer (out-Dict ps))

@@ -20,8 +20,8 @@ pub use chunk::Chunk;
 pub use fault::FrameFault;
 pub use framer::Framer;
 pub use laws::{
-    a_content_reads_as_its_grammar_says, a_part_of_a_packet_adds_none, a_written_packet_follows,
-    appending_reads_on, nothing_is_read_behind_a_fault,
+    a_chunk_is_put_in_by_form, a_content_reads_as_its_grammar_says, a_part_of_a_packet_adds_none,
+    a_written_packet_follows, appending_reads_on, nothing_is_read_behind_a_fault,
 };
 pub use next::Next;
 pub use pieces::{Held, read_pieces};
