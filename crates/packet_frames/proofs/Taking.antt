@@ -1,15 +1,15 @@
 -- Taking all packets of a stream that comes in pieces.
-use Rattle.std.proofs.Common.{◌≡◌, ◌≢◌, ℕ, zero, suc, ◌+◌, ◌<◌, ◌≤◌, List, [], ◌∷◌, ◌++◌, length, take, drop, map, get_or, refl, sym, ap, subst, ◌∙◌, arith, append_assoc, Bool, true, false}
-use Rattle.std.specs.Prelude.{Option, Some, None, if◌then◌else◌}
+use Rattle.std.proofs.Common.{◌≡◌, ℕ, zero, suc, ◌<◌, List, [], ◌∷◌, ◌++◌, length, take, get_or, refl, sym, ap, subst, ◌∙◌, arith, append_assoc, Bool, true, false}
+use Rattle.std.specs.Prelude.{Some, None, if◌then◌else◌}
 use Rattle.std.specs.List.{concat}
 use Rattle.std.proofs.lemmas.List.{length-drop, append-nil}
 use Rattle.bencode_values.specs.declared.value.Value.{Value}
 use Rattle.packet_frames.specs.declared.fault.FrameFault.{FrameFault}
 use Rattle.packet_frames.specs.declared.next.Next.{Next}
 use Rattle.packet_frames.specs.declared.next.Next.TheVariants as N
-use Rattle.packet_frames.specs.Stream.{Packet, Fault, Stream, from_place, read_on, packets_of}
+use Rattle.packet_frames.specs.Stream.{Packet, Stream, from_place, read_on, packets_of}
 use Rattle.packet_frames.specs.Following.{Framing, Follows, Gives, Tells, fed}
-use Rattle.packet_frames.specs.Pieces.{given_of, fault_of, LeavesUnread, TakesAll}
+use Rattle.packet_frames.specs.Pieces.{given_of, TakesAll}
 use Rattle.packet_frames.proofs.Frames.{map_push}
 
 -- so far: what followed the packets before follows those now

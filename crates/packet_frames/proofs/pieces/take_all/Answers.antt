@@ -1,5 +1,4 @@
-use Rattle.packet_frames.proofs.Taking.{takes_on, takes_need, takes_bad, gives_less, gives_limit}
-use Rattle.packet_frames.specs.declared.next.Next.TheVariants as N
+use Rattle.packet_frames.proofs.Taking.{gives_less}
 use Rattle.packet_frames.proofs.pieces.take_all.Goals as goal
 
 pub loop-place-smaller : goal.loop-place-smaller
