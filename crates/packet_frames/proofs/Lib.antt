@@ -1,0 +1,13 @@
+pub mod Bounds
+pub mod Contents
+pub mod Examples
+pub mod Follows
+pub mod Frames
+pub mod Fronts
+pub mod Headers
+pub mod Layers
+pub mod Reading
+pub mod Samples
+pub mod Streams
+pub mod Taking
+pub mod Writing
