@@ -1,13 +1,12 @@
 -- Whole runs of small windows, computed: how many points are owed at each question.
-use Rattle.std.proofs.Common.{◌≡◌, ℕ, ◌+◌, ◌*◌, Bool, true, false, List, [], ◌∷◌, Option, Some, None, refl}
+use Rattle.std.proofs.Common.{◌≡◌, ℕ, ◌+◌, ◌*◌, true, false, List, [], ◌∷◌, Option, Some, None, refl}
 use Rattle.std.specs.Prelude.{replicate}
-use Rattle.xp_base.specs.declared.coding.Coding.{Coding}
 use Rattle.xp_base.specs.declared.coding.Coding.TheVariants as C
 use Rattle.xp_base.specs.Points.{Rectangle}
 use Rattle.xp_base.specs.Captures.{Captured}
-use Rattle.delivery_model.specs.Grids.{each_point, has, Grid, number, number_in, shown_at}
+use Rattle.delivery_model.specs.Grids.{each_point, has, Grid, number, number_in}
 use Rattle.delivery_model.specs.Window.{Window, Rules, fresh_rules, keeping_rules}
-use Rattle.delivery_model.specs.Events.{is_empty, Planned, Event, Start, Paint, Capture, File, Write, Acknowledge, MapWindow, UnmapWindow, Resize, step, run, load}
+use Rattle.delivery_model.specs.Events.{is_empty, Planned, Event, Start, Paint, Capture, File, Write, Acknowledge, MapWindow, UnmapWindow, Resize, step, run}
 use Rattle.delivery_model.specs.Refusals.{CaptureAnswer, Unmapped, Clean, Early, Allowed, capture_answer}
 use Rattle.delivery_model.specs.Owed.{owed_count}
 

@@ -1,6 +1,6 @@
 -- When a window may be captured. This project's own.
 use Rattle.std.specs.Prelude.{ℕ, ◌+◌, ◌^◌, Bool, true, false, not, ◌&&◌, ◌||◌, List, [], ◌∷◌, length, nat_le, nat_lt, if◌then◌else◌}
-use Rattle.delivery_model.specs.Window.{Job, Packet, NewWindow, WindowResized, Draws, Window}
+use Rattle.delivery_model.specs.Window.{Packet, NewWindow, WindowResized, Draws, Window}
 use Rattle.delivery_model.specs.Events.{is_empty, load}
 
 pub data CaptureAnswer : Type 0 where
