@@ -8,3 +8,4 @@ pub mod Steadies
 pub mod OwedSteps
 pub mod Runs
 pub mod Examples
+pub mod Filing

@@ -6,8 +6,8 @@ mod laws;
 
 pub use laws::{
     cancelled_numbers_never_come_back, closing_leaves_no_job, every_event_changes_owed_as_stated,
-    every_event_keeps_the_form, every_run_keeps_the_form, form_gives_invariant,
-    giving_back_moves_reliefs, job_in_hand_was_in_hand, late_where_gone, nothing_in_front_anew,
-    nothing_in_front_kept, resize_anew, resize_keeping, start_owes_all, unowed_is_shown,
-    versions_are_lawful,
+    every_event_keeps_the_form, every_run_keeps_the_form, filing_asks_no_version,
+    form_gives_invariant, giving_back_moves_reliefs, job_in_hand_was_in_hand, late_where_gone,
+    nothing_in_front_anew, nothing_in_front_kept, resize_anew, resize_keeping, start_owes_all,
+    unowed_is_shown, versions_are_lawful,
 };
