@@ -1,8 +1,9 @@
 -- Jobs leave one after another.
-use Rattle.std.proofs.Common.{◌≡◌, ℕ, true, false, List, [], ◌∷◌, cond, refl, sym, ap, ◌∙◌}
-use Rattle.std.proofs.lemmas.Bool.{cond-true, cond-false}
+use Rattle.std.proofs.Common.{◌≡◌, ℕ, ◌+◌, true, false, List, [], ◌∷◌, inl, inr, cond, refl, sym, ap, ◌∙◌, arith}
+use Rattle.std.proofs.lemmas.Bool.{cases_Bool, cond-true, cond-false}
 use Rattle.delivery_model.specs.Window.{Job, Window, Rules}
-use Rattle.delivery_model.specs.Events.{queued, queue_ready}
+use Rattle.delivery_model.specs.Events.{queued, queue_ready, with_result, filed_as, Filed}
+use Rattle.plain_window.specs.Plain.{ready_count}
 
 -- which jobs the window had plays no part
 ready_any : (rules : Rules) (now : ℕ) (jobs : List Job) (w : Window) (some : List Job) → queue_ready rules now jobs (record w { jobs = some }) ≡ queue_ready rules now jobs w
@@ -21,3 +22,14 @@ ready_none rules now w is = ap (λ (js : List Job). record w { jobs = js }) (sym
 
 pub ready_from : (rules : Rules) (now : ℕ) (jobs : List Job) (w marked new : Window) → marked ≡ record w { jobs = jobs } → new ≡ queue_ready rules now marked.jobs marked → new ≡ queue_ready rules now jobs w
 ready_from rules now jobs w marked new is ready = ready ∙ (ap (λ (v : Window). queue_ready rules now v.jobs v) is ∙ ready_any rules now jobs w jobs)
+
+-- each draw that leaves takes a number
+pub next_ready : (rules : Rules) (now : ℕ) (jobs : List Job) (w : Window) → (queue_ready rules now jobs w).next_sequence ≡ w.next_sequence + ready_count jobs
+next_ready rules now [] w = omega arith
+next_ready rules now (j ∷ jobs) w = elim (cases_Bool j.encoded) [
+  | inl is ↦ rw is (next_ready rules now jobs (queued rules now j w) ∙ omega arith)
+  | inr isnt ↦ rw isnt (omega arith)
+]
+
+pub next_filed : (rules : Rules) (k now : ℕ) (w : Window) → (filed_as Filed rules k now w).next_sequence ≡ w.next_sequence + ready_count (with_result w.jobs k)
+next_filed rules k now w = next_ready rules now (with_result w.jobs k) w

@@ -1,5 +1,6 @@
 // Results, what is written, and a resize, of a window that is played plainly.
-ghost use Rattle.std.specs.Prelude.{◌≡◌, ◌≤◌, ◌&&◌, ◌||◌, not, false, if◌then◌else◌, IfOk, OnOk, map, nat_le, Some, [], ◌∷◌, ◌++◌};
+ghost use Rattle.std.specs.Prelude.{◌≡◌, ◌≤◌, ◌<◌, ◌^◌, ◌&&◌, ◌||◌, not, false, if◌then◌else◌, IfOk, OnOk, OnErr, map, nat_le, Some, [], ◌∷◌, ◌++◌};
+ghost use Rattle.xp_base.specs.Counts.{greatest};
 ghost use Rattle.xp_base.specs.Points.{is_in};
 ghost use Rattle.delivery_model.specs.Grids.{grid, number, number_in, points, has};
 ghost use Rattle.delivery_model.specs.Window.{WindowResized, shown};
@@ -8,12 +9,11 @@ ghost use Rattle.delivery_model.specs.Events.{queued, relief_queued, lossy_queue
 ghost use Rattle.plain_window.specs.Plain.{plain_rules, packet_seen};
 
 use crate::parts::{PlainDraw, PlainJob, PlainPacket, PlainSent};
-use crate::pixel_grid::PixelGrid;
-use crate::point_set::PointSet;
-use crate::selections::{
-    Drawn, Kept, OwedAnew, Plain, Resized, Sizes, Surviving, WithLossy, WithRect, WithoutRect,
+use crate::selections::{Kept, OwedAnew, Sizes, Surviving};
+use crate::window::PlainWindow;
+use point_grids::{
+    Drawn, OneNumber, PixelGrid, PointSet, Resized, WithLossy, WithRect, WithoutRect,
 };
-use crate::window::{PlainWindow, whole_rect};
 use std::alloc::Global;
 use xp_base::{Coding, NoMemory, Rect};
 
@@ -44,13 +44,14 @@ fn apply(
     client: &mut Option<PixelGrid>,
     packet: &PlainPacket,
 ) -> Result<(), NoMemory>
-    ensures { OnOk result (client.new ≡ applied (plain_rules keeps) client.old (packet_seen packet.now)) }
+    ensures ok { OnOk result (client.new ≡ applied (plain_rules keeps) client.old (packet_seen packet.now)) }
+    ensures err { OnErr result (client.new ≡ client.old) }
 {
     match packet {
         PlainPacket::NewWindow { size } => {
             if client.is_none() {
                 let _area = size.area();
-                *client = Some(PixelGrid::of(alloc, size.w, size.h, &Plain { number: 0 })?);
+                *client = Some(PixelGrid::of(alloc, size.w, size.h, &OneNumber { number: 0 })?);
             }
         }
         PlainPacket::WindowResized { size } => {
@@ -99,7 +100,7 @@ fn drawn_client(alloc: Global, old: &PixelGrid, draw: &PlainDraw) -> Result<Pixe
 
 impl PlainWindow {
     /// Bytes of the front packet were written: `taken` of the `left` that were left. A packet counts
-    /// once its last byte was written. After want of memory the window is not to be used.
+    /// once its last byte was written.
     pub fn write(
         &mut self,
         alloc: Global,
@@ -107,7 +108,8 @@ impl PlainWindow {
         left: u32,
         taken: u32,
     ) -> Result<(), NoMemory>
-        ensures { OnOk result (self.new ≡ written (plain_rules keeps) (nat_le left taken) self.old) }
+        ensures ok { OnOk result (self.new ≡ written (plain_rules keeps) (nat_le left taken) self.old) }
+        ensures err { OnErr result (self.new ≡ self.old) }
     {
         if taken < left || self.packets.is_empty() {
             return Ok(());
@@ -117,16 +119,14 @@ impl PlainWindow {
         Ok(())
     }
 
-    /// The job's draw is queued with the next sequence number. Where numbers have run out it fails as for
-    /// want of memory.
+    /// The job's draw is queued with the next sequence number. After want of memory the window is not to be
+    /// used.
     #[tactic(auto, using(crate::proofs::Loops::map_more))]
     pub(crate) fn queue(&mut self, alloc: Global, job: PlainJob, now: u64) -> Result<(), NoMemory>
+        requires clock { now ≤ 2 ^ 62 }
+        requires number { self.old.next_sequence < greatest }
         ensures { OnOk result (self.new ≡ queued (plain_rules false) now job self.old) }
     {
-        let next = match self.next_sequence.checked_add(1) {
-            Some(next) => next,
-            None => return Err(NoMemory),
-        };
         let PlainJob {
             number: _,
             rect,
@@ -153,7 +153,7 @@ impl PlainWindow {
         if coding == Coding::Lossy {
             self.lossy_since = now;
         }
-        self.next_sequence = next;
+        self.next_sequence += 1;
         Ok(())
     }
 
@@ -222,7 +222,9 @@ impl PlainWindow {
         size: Rect,
         now: u64,
     ) -> Result<(), NoMemory>
-        ensures { OnOk result (self.new ≡ resized (plain_rules keeps) size.w size.h now self.old) }
+        requires clock { now ≤ 2 ^ 62 }
+        ensures ok { OnOk result (self.new ≡ resized (plain_rules keeps) size.w size.h now self.old) }
+        ensures err { OnErr result (self.new ≡ self.old) }
     {
         let sizes = Sizes {
             keeps,
@@ -244,7 +246,9 @@ impl PlainWindow {
     ) -> Result<(), NoMemory>
         requires wide { sizes.wide ≡ size.w }
         requires high { sizes.high ≡ size.h }
-        ensures { OnOk result (self.new ≡ resized_from (plain_rules sizes.keeps) sizes.wide_before sizes.high_before sizes.wide sizes.high now self.old) }
+        requires clock { now ≤ 2 ^ 62 }
+        ensures ok { OnOk result (self.new ≡ resized_from (plain_rules sizes.keeps) sizes.wide_before sizes.high_before sizes.wide sizes.high now self.old) }
+        ensures err { OnErr result (self.new ≡ self.old) }
     {
         let _area = size.area();
         let desk = self.desk_resized(alloc, sizes)?;

@@ -2,22 +2,18 @@
 //! delivering one window to one client, which makes exactly the window that the event makes.
 #![tactic(auto)]
 
-mod at_point;
 mod captures;
+mod copies;
 mod draws;
 mod parts;
-mod pixel_grid;
-mod point_set;
 mod replies;
 mod selections;
 mod window;
 
-pub use at_point::{AtPoint, each_point};
+pub use captures::PlainCapture;
 pub use draws::shown;
 pub use parts::{PlainDraw, PlainJob, PlainPacket, PlainPlanned, PlainSent};
-pub use pixel_grid::PixelGrid;
-pub use point_set::PointSet;
-pub use replies::PlainFiling;
+pub use replies::{PlainFiling, PlainRefusal};
 pub use window::PlainWindow;
 
 #[cfg(test)]

@@ -1,7 +1,7 @@
 // The parts of a window that is played plainly: jobs, draws, packets, and the rectangles of a plan.
 ghost use Rattle.std.specs.Prelude.{◌≡◌};
 
-use crate::point_set::PointSet;
+use point_grids::PointSet;
 use std::marker::Model;
 use xp_base::{Coding, Rect};
 

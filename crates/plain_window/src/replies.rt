@@ -1,7 +1,8 @@
 // Results and acknowledgements of a window that is played plainly.
-ghost use Rattle.std.specs.Prelude.{◌≡◌, false, IfOk, OnOk, bytes_eq};
+ghost use Rattle.std.specs.Prelude.{◌≡◌, ◌≤◌, ◌+◌, ◌^◌, false, IfOk, IfErr, OnOk, OnErr, bytes_eq};
+ghost use Rattle.xp_base.specs.Counts.{greatest};
 ghost use Rattle.delivery_model.specs.Events.{queue_ready, with_result, same_coding, same_rectangle, same_capture, filing_of, capture_of, filed, filed_as, Filed, rect_sent, without_sent, acknowledged};
-ghost use Rattle.plain_window.specs.Plain.{plain_rules, filing_seen};
+ghost use Rattle.plain_window.specs.Plain.{plain_rules, filing_seen, ready_count, refusal_at};
 
 use crate::parts::{PlainJob, PlainSent};
 use crate::window::PlainWindow;
@@ -67,6 +68,32 @@ fn filing_of(
     PlainFiling::Late
 }
 
+/// Why a result is not filed.
+#[derive(Clone, Copy, Debug, PartialEq, Eq)]
+pub enum PlainRefusal {
+    /// The draws that would be queued have more numbers than there are: the next one would be past the
+    /// greatest `u64`.
+    Spent,
+    NoMemory,
+}
+
+/// How many jobs leave once the result of the one with this number is there.
+fn leaving(jobs: &[PlainJob], number: u64) -> u64
+    ensures { result ≡ ready_count (with_result jobs.now number) }
+{
+    let mut count = 0;
+    let mut found = false;
+    for job in jobs {
+        if !found && job.number == number {
+            found = true;
+        } else if !job.encoded {
+            return count;
+        }
+        count += 1;
+    }
+    count
+}
+
 /// The job's encoding came back. After want of memory the jobs are not to be used.
 fn set_result(alloc: Global, jobs: &mut Vec<PlainJob>, number: u64) -> Result<(), NoMemory>
     ensures { OnOk result (jobs.new.items ≡ with_result jobs.old.items number) }
@@ -114,8 +141,8 @@ fn without_sent(alloc: Global, sent: &[PlainSent], number: u64) -> Result<Vec<Pl
 }
 
 impl PlainWindow {
-    /// A result: its job's number, and what it captured. After want of memory the window is not to be
-    /// used.
+    /// A result: its job's number, and what it captured. Running out of sequence numbers goes before want
+    /// of memory, and either comes only where the result would be filed.
     pub fn file(
         &mut self,
         alloc: Global,
@@ -124,9 +151,14 @@ impl PlainWindow {
         coding: Coding,
         pixels: &[u32],
         now: u64,
-    ) -> Result<PlainFiling, NoMemory>
+    ) -> Result<PlainFiling, PlainRefusal>
+        requires clock { now ≤ 2 ^ 62 }
         ensures answer { IfOk result (λ f. filing_seen f ≡ filing_of (capture_of self.old.jobs number) (record { rect = rect; coding = coding; pixels = pixels.now })) }
         ensures ok { OnOk result (self.new ≡ filed (plain_rules false) number (record { rect = rect; coding = coding; pixels = pixels.now }) now self.old) }
+        ensures numbered { OnOk result ((filed (plain_rules false) number (record { rect = rect; coding = coding; pixels = pixels.now }) now self.old).next_sequence ≤ greatest) }
+        ensures err { OnErr result (self.new ≡ self.old) }
+        ensures cause { IfErr result (λ e. e ≡ refusal_at (filed (plain_rules false) number (record { rect = rect; coding = coding; pixels = pixels.now }) now self.old).next_sequence) }
+        ensures last { OnErr result (filing_of (capture_of self.old.jobs number) (record { rect = rect; coding = coding; pixels = pixels.now }) ≡ Filed) }
     {
         match filing_of(self.jobs.as_slice(), number, rect, coding, pixels) {
             PlainFiling::Late => Ok(PlainFiling::Late),
@@ -138,13 +170,38 @@ impl PlainWindow {
         }
     }
 
-    #[tactic(auto, using(crate::proofs::Ready::ready_from))]
-    fn file_result(&mut self, alloc: Global, number: u64, now: u64) -> Result<(), NoMemory>
-        ensures { OnOk result (self.new ≡ filed_as Filed (plain_rules false) number now self.old) }
+    /// The result is filed in a copy, which then takes the window's place.
+    #[tactic(auto, using(crate::proofs::Ready::next_filed))]
+    fn file_result(&mut self, alloc: Global, number: u64, now: u64) -> Result<(), PlainRefusal>
+        requires clock { now ≤ 2 ^ 62 }
+        ensures ok { OnOk result (self.new ≡ filed_as Filed (plain_rules false) number now self.old) }
+        ensures err { OnErr result (self.new ≡ self.old) }
+        ensures numbered { OnOk result ((filed_as Filed (plain_rules false) number now self.old).next_sequence ≤ greatest) }
+        ensures cause { IfErr result (λ e. e ≡ refusal_at (filed_as Filed (plain_rules false) number now self.old).next_sequence) }
     {
-        self.mark(alloc, number)?;
-        self.queue_ready(alloc, now)?;
-        Ok(())
+        let count = leaving(self.jobs.as_slice(), number);
+        if count > u64::MAX - self.next_sequence {
+            return Err(PlainRefusal::Spent);
+        }
+        match self.filed(alloc, number, now) {
+            Ok(filed) => {
+                *self = filed;
+                Ok(())
+            }
+            Err(NoMemory) => Err(PlainRefusal::NoMemory),
+        }
+    }
+
+    #[tactic(auto, using(crate::proofs::Ready::ready_from))]
+    fn filed(&self, alloc: Global, number: u64, now: u64) -> Result<PlainWindow, NoMemory>
+        requires clock { now ≤ 2 ^ 62 }
+        requires numbers { self.now.next_sequence + ready_count (with_result self.now.jobs number) ≤ greatest }
+        ensures { IfOk result (λ w. w ≡ filed_as Filed (plain_rules false) number now self.now) }
+    {
+        let mut filed = self.copy(alloc)?;
+        filed.mark(alloc, number)?;
+        filed.queue_ready(alloc, now)?;
+        Ok(filed)
     }
 
     fn mark(&mut self, alloc: Global, number: u64) -> Result<(), NoMemory>
@@ -162,7 +219,9 @@ impl PlainWindow {
         negative: bool,
         now: u64,
     ) -> Result<(), NoMemory>
-        ensures { OnOk result (self.new ≡ acknowledged number negative now self.old) }
+        requires clock { now ≤ 2 ^ 62 }
+        ensures ok { OnOk result (self.new ≡ acknowledged number negative now self.old) }
+        ensures err { OnErr result (self.new ≡ self.old) }
     {
         let rect = match rect_sent(self.unacknowledged.as_slice(), number) {
             None => return Ok(()),
@@ -179,9 +238,12 @@ impl PlainWindow {
         Ok(())
     }
 
-    /// The jobs at the front whose encodings came back leave in the order of their captures.
+    /// The jobs at the front whose encodings came back leave in the order of their captures. After want of
+    /// memory the window is not to be used.
     #[tactic(auto, using(crate::proofs::Ready::ready_next, crate::proofs::Ready::ready_done, crate::proofs::Ready::ready_none))]
     fn queue_ready(&mut self, alloc: Global, now: u64) -> Result<(), NoMemory>
+        requires clock { now ≤ 2 ^ 62 }
+        requires numbers { self.old.next_sequence + ready_count self.old.jobs ≤ greatest }
         ensures { OnOk result (self.new ≡ queue_ready (plain_rules false) now self.old.jobs self.old) }
     {
         while !self.jobs.is_empty() && self.jobs[0].encoded {

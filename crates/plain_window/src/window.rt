@@ -1,20 +1,20 @@
 // One window of one client, played plainly.
-ghost use Rattle.std.specs.Prelude.{◌≡◌, IfOk, OnOk, OnErr, true, false, count_by};
+ghost use Rattle.std.specs.Prelude.{◌≡◌, ◌≤◌, ◌^◌, true, IfOk, OnOk, OnErr, count_by};
 ghost use Rattle.xp_base.specs.Points.{whole};
-ghost use Rattle.delivery_model.specs.Events.{put_pending, damaged, painted, given_back, unmapped, started};
+ghost use Rattle.delivery_model.specs.Window.{Rules};
+ghost use Rattle.delivery_model.specs.Events.{put_pending, damaged, painted, given_back, unmapped, started, step, Close};
 ghost use Rattle.delivery_model.specs.Owed.{owed_count};
 
-use crate::at_point::each_point;
 use crate::parts::{PlainJob, PlainPacket, PlainSent};
-use crate::pixel_grid::PixelGrid;
-use crate::point_set::PointSet;
-use crate::selections::{Everywhere, IsOwed, Painted, WithJobs, WithRect};
+use crate::selections::{IsOwed, WithJobs};
+use point_grids::{Everywhere, Painted, PixelGrid, PointSet, WithRect, each_point};
 use std::alloc::Global;
 use std::marker::Model;
 use xp_base::{NoMemory, Rect};
 
 /// A window of one client, where each set of points is a list of marks and each step goes through all
-/// of them. After want of memory it is as before, but where a method says otherwise.
+/// of them. After want of memory it is as before. Moments are milliseconds of a clock that stops at
+/// 2^62.
 #[derive(Debug, Drop)]
 pub struct PlainWindow {
     pub(crate) desk: PixelGrid,
@@ -32,7 +32,7 @@ pub struct PlainWindow {
 }
 
 impl Model for PlainWindow {
-    ghost use Rattle.std.specs.Prelude.{map};
+    ghost use Rattle.std.specs.Prelude.{◌≤◌, ◌^◌, map};
     ghost use Rattle.delivery_model.specs.Window.{Window};
     ghost use Rattle.plain_window.specs.Plain.{packet_seen};
 
@@ -52,11 +52,14 @@ impl Model for PlainWindow {
       mapped = w.mapped;
       delay = w.delay;
     } };
+
+    ghost invariant = { λ w. ((w.pending_since ≤ 2 ^ 62) × (w.lossy_since ≤ 2 ^ 62)) × (w.delay ≤ 500) };
 }
 
 impl PlainWindow {
     /// Attach and open: the window is announced, and all of it is pending.
     pub fn start(alloc: Global, desk: PixelGrid, now: u64) -> Result<PlainWindow, NoMemory>
+        requires clock { now ≤ 2 ^ 62 }
         ensures { IfOk result (λ w. w ≡ started desk now) }
     {
         let wide = desk.wide();
@@ -84,6 +87,7 @@ impl PlainWindow {
     }
 
     pub(crate) fn put_pending(&mut self, set: PointSet, now: u64)
+        requires clock { now ≤ 2 ^ 62 }
         ensures { self.new ≡ put_pending set now self.old }
     {
         if self.pending.is_empty() && !set.is_empty() {
@@ -94,6 +98,7 @@ impl PlainWindow {
 
     /// The rectangle's part of the window becomes pending.
     pub(crate) fn damage(&mut self, alloc: Global, rect: Rect, now: u64) -> Result<(), NoMemory>
+        requires clock { now ≤ 2 ^ 62 }
         ensures ok { OnOk result (self.new ≡ damaged rect now self.old) }
         ensures err { OnErr result (self.new ≡ self.old) }
     {
@@ -115,6 +120,7 @@ impl PlainWindow {
         numbers: &[u32],
         now: u64,
     ) -> Result<(), NoMemory>
+        requires clock { now ≤ 2 ^ 62 }
         ensures ok { OnOk result (self.new ≡ damaged rect now (record self.old { desk = painted rect numbers.now self.old.desk })) }
         ensures err { OnErr result (self.new ≡ self.old) }
     {
@@ -131,6 +137,7 @@ impl PlainWindow {
 
     /// `buffer-refresh`: the whole window is damaged.
     pub fn refresh(&mut self, alloc: Global, now: u64) -> Result<(), NoMemory>
+        requires clock { now ≤ 2 ^ 62 }
         ensures ok { OnOk result (self.new ≡ damaged (whole self.old.desk.wide self.old.desk.high) now self.old) }
         ensures err { OnErr result (self.new ≡ self.old) }
     {
@@ -146,6 +153,7 @@ impl PlainWindow {
 
     /// All jobs in hand are cancelled, and what they relieve is pending.
     pub fn recall(&mut self, alloc: Global, now: u64) -> Result<(), NoMemory>
+        requires clock { now ≤ 2 ^ 62 }
         ensures ok { OnOk result (self.new ≡ given_back now self.old) }
         ensures err { OnErr result (self.new ≡ self.old) }
     {
@@ -161,6 +169,7 @@ impl PlainWindow {
 
     /// Cancels and gives back; an unmapped window stays as it is.
     pub fn unmap(&mut self, alloc: Global, now: u64) -> Result<(), NoMemory>
+        requires clock { now ≤ 2 ^ 62 }
         ensures ok { OnOk result (self.new ≡ unmapped now self.old) }
         ensures err { OnErr result (self.new ≡ self.old) }
     {
@@ -170,6 +179,13 @@ impl PlainWindow {
         self.recall(alloc, now)?;
         self.mapped = false;
         Ok(())
+    }
+
+    /// The window is closed: it is gone, with its jobs and all that was owed, in every version of resize.
+    pub fn close(window: &mut Option<PlainWindow>)
+        ensures { (rules : Rules) → window.new ≡ step rules window.old Close }
+    {
+        *window = None;
     }
 
     /// How many points of the window the client is owed.

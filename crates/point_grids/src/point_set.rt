@@ -40,6 +40,17 @@ impl PointSet {
         Ok(PointSet { wide, high, marks })
     }
 
+    pub fn copy(&self, alloc: Global) -> Result<PointSet, AllocError>
+        ensures { IfOk result (λ copy. copy ≡ self.now) }
+    {
+        let marks = Vec::from_slice(alloc, self.marks.as_slice())?;
+        Ok(PointSet {
+            wide: self.wide,
+            high: self.high,
+            marks,
+        })
+    }
+
     #[tactic(auto, unfolding(delivery_model::specs::Grids::has))]
     pub fn has(&self, x: u32, y: u32) -> bool
         ensures { result ≡ has self.now x y }

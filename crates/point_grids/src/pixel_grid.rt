@@ -46,6 +46,17 @@ impl PixelGrid {
         })
     }
 
+    pub fn copy(&self, alloc: Global) -> Result<PixelGrid, AllocError>
+        ensures { IfOk result (λ copy. copy ≡ self.now) }
+    {
+        let numbers = Vec::from_slice(alloc, self.numbers.as_slice())?;
+        Ok(PixelGrid {
+            wide: self.wide,
+            high: self.high,
+            numbers,
+        })
+    }
+
     pub fn wide(&self) -> u32
         ensures value { result ≡ self.now.wide }
         ensures some { 1 ≤ result }
