@@ -110,6 +110,7 @@ impl PlainWindow {
     ) -> Result<(), NoMemory>
         ensures ok { OnOk result (self.new ≡ written (plain_rules keeps) (nat_le left taken) self.old) }
         ensures err { OnErr result (self.new ≡ self.old) }
+        ensures last { OnErr result (left ≤ taken) }
     {
         if taken < left || self.packets.is_empty() {
             return Ok(());

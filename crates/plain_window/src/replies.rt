@@ -1,5 +1,5 @@
 // Results and acknowledgements of a window that is played plainly.
-ghost use Rattle.std.specs.Prelude.{◌≡◌, ◌≤◌, ◌+◌, ◌^◌, false, IfOk, IfErr, OnOk, OnErr, bytes_eq};
+ghost use Rattle.std.specs.Prelude.{◌≡◌, ◌≤◌, ◌+◌, ◌^◌, false, IfOk, IfErr, IsSome, OnOk, OnErr, bytes_eq};
 ghost use Rattle.xp_base.specs.Counts.{greatest};
 ghost use Rattle.delivery_model.specs.Events.{queue_ready, with_result, same_coding, same_rectangle, same_capture, filing_of, capture_of, filed, filed_as, Filed, rect_sent, without_sent, acknowledged};
 ghost use Rattle.plain_window.specs.Plain.{plain_rules, filing_seen, ready_count, refusal_at};
@@ -222,6 +222,7 @@ impl PlainWindow {
         requires clock { now ≤ 2 ^ 62 }
         ensures ok { OnOk result (self.new ≡ acknowledged number negative now self.old) }
         ensures err { OnErr result (self.new ≡ self.old) }
+        ensures last { OnErr result (IsSome (rect_sent self.old.unacknowledged number)) }
     {
         let rect = match rect_sent(self.unacknowledged.as_slice(), number) {
             None => return Ok(()),

@@ -3,7 +3,7 @@ use crate::{PlainCapture, PlainFiling, PlainPlanned, PlainRefusal, PlainWindow};
 use point_grids::{OneNumber, PixelGrid};
 use std::alloc::Global;
 use std::test::Fail;
-use xp_base::{Coding, Rect};
+use xp_base::{Coding, NoMemory, Rect};
 
 const WHITE: u32 = 0xff_ffff;
 
@@ -118,7 +118,8 @@ fn file(alloc: Global, window: &mut PlainWindow, step: Step) -> Result<(), Fail>
         return match window.file(alloc, number, rect, coding, first(&numbers, rect), 500) {
             Ok(filing) if filing == want => Ok(()),
             Ok(_) => Err(Fail::from("another answer to a result")),
-            Err(_) => Err(Fail::from("a result was refused")),
+            Err(PlainRefusal::NoMemory) => Err(Fail::from(NoMemory)),
+            Err(PlainRefusal::Spent) => Err(Fail::from("numbers have run out")),
         };
     }
     Ok(())

@@ -172,6 +172,7 @@ impl PlainWindow {
         requires clock { now ≤ 2 ^ 62 }
         ensures ok { OnOk result (self.new ≡ unmapped now self.old) }
         ensures err { OnErr result (self.new ≡ self.old) }
+        ensures last { OnErr result (self.old.mapped ≡ true) }
     {
         if !self.mapped {
             return Ok(());
