@@ -1,14 +1,13 @@
 -- Whole runs of small windows, computed: how many points are owed at each question.
-use Rattle.std.proofs.Common.{◌≡◌, ℕ, ◌+◌, ◌*◌, Bool, true, false, List, [], ◌∷◌, Option, Some, None, refl}
-use Rattle.std.specs.Prelude.{replicate}
-use Rattle.xp_base.specs.declared.coding.Coding.{Coding}
+use Rattle.std.proofs.Common.{◌≡◌, ℕ, ◌+◌, ◌-◌, ◌*◌, true, false, List, [], ◌∷◌, Option, Some, None, refl}
+use Rattle.std.specs.Prelude.{◌^◌, replicate}
 use Rattle.xp_base.specs.declared.coding.Coding.TheVariants as C
 use Rattle.xp_base.specs.Points.{Rectangle}
 use Rattle.xp_base.specs.Captures.{Captured}
-use Rattle.delivery_model.specs.Grids.{each_point, has, Grid, number, number_in, shown_at}
+use Rattle.delivery_model.specs.Grids.{each_point, has, Grid, number, number_in}
 use Rattle.delivery_model.specs.Window.{Window, Rules, fresh_rules, keeping_rules}
-use Rattle.delivery_model.specs.Events.{is_empty, Planned, Event, Start, Paint, Capture, File, Write, Acknowledge, MapWindow, UnmapWindow, Resize, step, run, load}
-use Rattle.delivery_model.specs.Refusals.{CaptureAnswer, Unmapped, Clean, Early, Allowed, capture_answer}
+use Rattle.delivery_model.specs.Events.{is_empty, Planned, Event, Start, Paint, Capture, File, Write, Acknowledge, MapWindow, UnmapWindow, Resize, step, run}
+use Rattle.delivery_model.specs.Refusals.{CaptureAnswer, Unmapped, Clean, Early, Congested, Heavy, Spent, Allowed, capture_answer}
 use Rattle.delivery_model.specs.Owed.{owed_count}
 
 -- a run with questions in it
@@ -107,9 +106,9 @@ unfolding each_point has number number_in is_empty
 shrunk_and_made_anew = refl
 
 -- what a capture answers: before the map, at first, with the job in hand, and directly after damage
-abbrev answers_where_there : ℕ → ℕ → Option Window → CaptureAnswer
-answers_where_there now first None = Unmapped
-answers_where_there now first (Some w) = capture_answer now 0 first w
+abbrev capture_where_there : ℕ → ℕ → ℕ → Option Window → CaptureAnswer
+capture_where_there now weight first None = Unmapped
+capture_where_there now weight first (Some w) = capture_answer now weight first w
 
 abbrev announced : List Event
 announced = Start (black 1 1) 0 ∷ Write true ∷ []
@@ -117,18 +116,47 @@ announced = Start (black 1 1) 0 ∷ Write true ∷ []
 abbrev in_hand : List Event
 in_hand = Start (black 1 1) 0 ∷ Write true ∷ MapWindow ∷ Capture (exact (rect 0 0 1 1) ∷ []) 1 ∷ []
 
-before_map : answers_where_there 500 1 (run (fresh_rules next) None announced) ≡ Unmapped
+before_map : capture_where_there 500 0 1 (run (fresh_rules next) None announced) ≡ Unmapped
 unfolding each_point has number number_in is_empty
 before_map = refl
 
-at_first : answers_where_there 500 1 (run (fresh_rules next) None (Start (black 1 1) 0 ∷ Write true ∷ MapWindow ∷ [])) ≡ Allowed
+at_first : capture_where_there 500 0 1 (run (fresh_rules next) None (Start (black 1 1) 0 ∷ Write true ∷ MapWindow ∷ [])) ≡ Allowed
 unfolding each_point has number number_in is_empty
 at_first = refl
 
-with_job : answers_where_there 500 2 (run (fresh_rules next) None in_hand) ≡ Clean
+with_job : capture_where_there 500 0 2 (run (fresh_rules next) None in_hand) ≡ Clean
 unfolding each_point has number number_in is_empty
 with_job = refl
 
-after_damage : answers_where_there 500 2 (step (fresh_rules next) (run (fresh_rules next) None in_hand) (Paint (rect 0 0 1 1) (255 ∷ []) 500)) ≡ Early 520
+after_damage : capture_where_there 500 0 2 (step (fresh_rules next) (run (fresh_rules next) None in_hand) (Paint (rect 0 0 1 1) (255 ∷ []) 500)) ≡ Early 520
 unfolding each_point has number number_in is_empty
 after_damage = refl
+
+-- the moment at which the delay is over
+when_due : capture_where_there 520 0 2 (step (fresh_rules next) (run (fresh_rules next) None in_hand) (Paint (rect 0 0 1 1) (255 ∷ []) 500)) ≡ Allowed
+unfolding each_point has number number_in is_empty
+when_due = refl
+
+-- the limits of load, weight and number, in this order, and what is allowed just below them
+abbrev loaded : ℕ → Option Window → Option Window
+loaded n None = None
+loaded n (Some w) = Some (record w { unacknowledged = replicate n (record { sequence = 1; rect = rect 0 0 1 1 }) })
+
+abbrev mapped : Option Window
+mapped = run (fresh_rules next) None (Start (black 1 1) 0 ∷ Write true ∷ MapWindow ∷ [])
+
+too_much_load : capture_where_there 500 33554432 (2 ^ 62) (loaded 64 mapped) ≡ Congested 64
+unfolding each_point has number number_in is_empty
+too_much_load = refl
+
+too_much_weight : capture_where_there 500 33554432 (2 ^ 62) (loaded 63 mapped) ≡ Heavy 33554432
+unfolding each_point has number number_in is_empty
+too_much_weight = refl
+
+no_number_left : capture_where_there 500 33554431 (2 ^ 62) (loaded 63 mapped) ≡ Spent
+unfolding each_point has number number_in is_empty
+no_number_left = refl
+
+just_below : capture_where_there 500 33554431 (2 ^ 62 - 1) (loaded 63 mapped) ≡ Allowed
+unfolding each_point has number number_in is_empty
+just_below = refl

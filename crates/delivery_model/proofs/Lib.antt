@@ -7,7 +7,5 @@ pub mod JobSteps
 pub mod Steadies
 pub mod OwedSteps
 pub mod Runs
-pub mod Loops
-pub mod Ready
-pub mod Resizing
 pub mod Examples
+pub mod Filing

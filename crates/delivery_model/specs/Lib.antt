@@ -10,5 +10,4 @@ pub mod Kept
 pub mod Changes
 pub mod Numbers
 pub mod Laws
-pub mod Plain
 pub mod Invariant

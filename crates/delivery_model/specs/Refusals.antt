@@ -1,7 +1,7 @@
 -- When a window may be captured. This project's own.
 use Rattle.std.specs.Prelude.{ℕ, ◌+◌, ◌^◌, Bool, true, false, not, ◌&&◌, ◌||◌, List, [], ◌∷◌, length, nat_le, nat_lt, if◌then◌else◌}
-use Rattle.delivery_model.specs.Window.{Job, Packet, NewWindow, WindowResized, Draws, Window}
-use Rattle.delivery_model.specs.Events.{is_empty, load}
+use Rattle.delivery_model.specs.Window.{Packet, NewWindow, WindowResized, Draws, Window}
+use Rattle.delivery_model.specs.Events.{Planned, is_empty, load, captured}
 
 pub data CaptureAnswer : Type 0 where
   Unmapped : CaptureAnswer
@@ -38,3 +38,17 @@ capture_answer now weight first w =
     else if nat_le 33_554_432 weight then Heavy weight
     else if nat_le (2 ^ 62) first then Spent
     else Allowed
+
+abbrev pub is_allowed : CaptureAnswer → Bool
+is_allowed Unmapped = false
+is_allowed Clean = false
+is_allowed (Early t) = false
+is_allowed (Congested n) = false
+is_allowed (Heavy n) = false
+is_allowed Spent = false
+is_allowed Allowed = true
+
+-- a capture that is refused changes nothing
+abbrev pub captured_where : Bool → List Planned → ℕ → Window → Window
+captured_where true plan first w = captured plan first w
+captured_where false plan first w = w

@@ -4,7 +4,7 @@ ghost use Rattle.xp_base.specs.Points.{is_within};
 ghost use Rattle.xp_base.specs.Captures.{Captured};
 ghost use Rattle.delivery_model.specs.Grids.{Grid, has, number, shown_at};
 ghost use Rattle.delivery_model.specs.Window.{Window, Rules, IsRules, fresh_rules, keeping_rules};
-ghost use Rattle.delivery_model.specs.Events.{Event, Close, started, changed, step, run, IsEvent, AreEvents, given_back, jobs_relieve, resized, filing_of, capture_of, Late};
+ghost use Rattle.delivery_model.specs.Events.{Event, Close, started, changed, step, run, IsEvent, AreEvents, given_back, jobs_relieve, resized, filing_of, capture_of, filed, Late};
 ghost use Rattle.delivery_model.specs.Owed.{is_owed, owes};
 ghost use Rattle.delivery_model.specs.Changes.{owed_after};
 ghost use Rattle.delivery_model.specs.Kept.{IsKept};
@@ -108,4 +108,9 @@ pub fn closing_leaves_no_job()
     ensures given_back { (now k : ℕ) (w : Window) → IsGone (Some (given_back now w)) k }
     ensures resized { (rules : Rules) (w h now k : ℕ) (old : Window) → IsGone (Some (resized rules w h now old)) k }
     ensures closed { (rules : Rules) (k : ℕ) (w : Window) → IsGone (changed rules Close w) k }
+{}
+
+/// Filing does not ask what survives a resize: where lossy draws show the same, every version files alike.
+pub fn filing_asks_no_version()
+    ensures { (rules other : Rules) → rules.lossy_shows ≡ other.lossy_shows → (k : ℕ) (capture : Captured) (now : ℕ) (w : Window) → filed rules k capture now w ≡ filed other k capture now w }
 {}
