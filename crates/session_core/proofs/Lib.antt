@@ -1,4 +1,5 @@
 pub mod Marks
+pub mod Marked
 pub mod Slots
 pub mod Texts
 pub mod Ended

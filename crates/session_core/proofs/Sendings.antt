@@ -1,13 +1,14 @@
 -- What waits to be written, as packets are put at its end and bytes of the first are taken.
-use Rattle.std.proofs.Common.{◌≡◌, ◌≢◌, ℕ, zero, suc, ◌+◌, ◌-◌, ◌<◌, ◌≤◌, Bool, true, false, List, [], ◌∷◌, ◌++◌, length, drop, refl, ap, ◌∙◌, arith, map}
+use Rattle.std.proofs.Common.{◌≡◌, ◌≢◌, ℕ, zero, suc, ◌+◌, ◌-◌, ◌<◌, ◌≤◌, Bool, true, false, List, [], ◌∷◌, ◌++◌, length, drop, refl, ap, ◌∙◌, sym, arith, map}
 use Rattle.std.specs.Prelude.{All}
+use Rattle.std.proofs.Math.Seq.{drop-nil}
 use Rattle.std.proofs.lemmas.Bool.Decides.{nat_tests}
 use Rattle.session_core.specs.declared.packet.Packet.{Packet}
 use Rattle.session_core.specs.declared.source.Source.{Source}
 use Rattle.window_model.specs.Desktop.{Window}
 use Rattle.session_core.specs.declared.geometry.Geometry.{Geometry}
 use Rattle.session_core.specs.Wire.{server_hello, new_window, geometry_of, draw}
-use Rattle.session_core.specs.Clients.{structure_packet, ClientSeen, IsTaken, IsClient, front_size, size_of, waiting, taken_more}
+use Rattle.session_core.specs.Clients.{structure_packet, ClientSeen, IsTaken, IsClient, front_size, size_of, waiting, taken_more, front_rest}
 
 -- a packet at the end leaves the first one
 pub taken_push : (packets : List Packet) (p : Packet) (taken : ℕ) → 0 < length p.bytes → IsTaken packets taken → IsTaken (packets ++ p ∷ []) taken
@@ -93,3 +94,19 @@ client_attached desk sources' packets' client is = rw is (record {
     first : All (λ q. 0 < length q.bytes) (structure_packet server_hello ∷ map (λ w. structure_packet (new_window (geometry_of w))) desk)
     first zero d within = omega arith
     first (suc k) d within = announced_some desk k d (omega (arith, within))
+
+drop_more : (a n : ℕ) (bytes : List ℕ) → drop (a + n) bytes ≡ drop n (drop a bytes)
+drop_more a n [] = drop-nil (a + n) ∙ sym (ap (drop n) (drop-nil a) ∙ drop-nil n)
+drop_more zero n (b ∷ bytes) = let e : 0 + n ≡ n = omega arith in ap (λ k. drop k (b ∷ bytes)) e
+drop_more (suc a) n (b ∷ bytes) = let e : suc a + n ≡ suc (a + n) = omega arith in ap (λ k. drop k (b ∷ bytes)) e ∙ drop_more a n bytes
+
+-- what is left to write, once more of it was taken
+pub rest_taken : (n : ℕ) (c : ClientSeen) → c.taken + n < front_size c.packets → front_rest (taken_more n c).packets (taken_more n c).taken ≡ drop n (front_rest c.packets c.taken)
+rest_taken n c part = rw (decided n c part) (rest c.packets c.taken)
+  where
+    decided : (n : ℕ) (c : ClientSeen) → c.taken + n < front_size c.packets → taken_more n c ≡ record c { taken = c.taken + n }
+    decided n c part = grind (arith, nat_tests, part)
+
+    rest : (packets : List Packet) (taken : ℕ) → front_rest packets (taken + n) ≡ drop n (front_rest packets taken)
+    rest [] taken = sym (drop-nil n)
+    rest (p ∷ packets) taken = drop_more taken n p.bytes

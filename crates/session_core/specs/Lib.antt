@@ -8,4 +8,5 @@ pub mod Capturing
 pub mod State
 pub mod Ends
 pub mod Steps
+pub mod Laws
 pub mod Owed
