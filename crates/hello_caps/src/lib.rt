@@ -1,0 +1,13 @@
+//! Hello: what a client's first packet says of it, and what the server answers.
+#![tactic(auto)]
+
+mod caps;
+mod client;
+mod forms;
+mod refusal;
+mod server;
+
+pub use caps::{Caps, HelloFault, HelloRead};
+pub use client::read_hello;
+pub use refusal::goodbye;
+pub use server::server_hello;
