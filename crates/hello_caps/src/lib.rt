@@ -11,3 +11,6 @@ pub use caps::{Caps, HelloFault, HelloRead};
 pub use client::read_hello;
 pub use refusal::goodbye;
 pub use server::server_hello;
+
+#[cfg(test)]
+mod tests;
