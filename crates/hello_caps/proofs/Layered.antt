@@ -1,11 +1,11 @@
--- The forms of values, and a hello's items.
-use Rattle.std.proofs.Common.{◌≡◌, ℕ, ◌<◌, ◌≤◌, Option, None, Some, List, [], ◌∷◌, length, get_or, refl, ap, ◌∙◌, arith}
-use Rattle.std.specs.Prelude.{ℤ, codes, if◌then◌else◌}
+-- The forms of values.
+use Rattle.std.proofs.Common.{◌≡◌, ℕ, None, Some, List, ap}
+use Rattle.std.specs.Prelude.{ℤ}
 use Rattle.bencode_values.specs.declared.value.Value.{Value}
 use Rattle.bencode_values.specs.declared.value.Value.TheVariants as V
 use Rattle.bencode_values.specs.declared.value.Pair.{Pair}
 use Rattle.packet_frames.proofs.Layers.{out-Int, out-Bytes, out-List, out-Dict}
-use Rattle.hello_caps.specs.Capabilities.{items_layer, items_of, pairs_layer, pairs_of, text_layer, text_of, is_text, hello_pairs}
+use Rattle.hello_caps.specs.Capabilities.{items_layer, items_of, pairs_layer, pairs_of, text_layer, text_of}
 
 pub items_of-Int : (n : ℤ) → items_of (V.Int n) ≡ None
 items_of-Int n = ap items_layer (out-Int n)
@@ -42,15 +42,3 @@ text_of-List items = ap text_layer (out-List items)
 
 pub text_of-Dict : (pairs : List Pair) → text_of (V.Dict pairs) ≡ None
 text_of-Dict pairs = ap text_layer (out-Dict pairs)
-
--- the first two items decide
-pub hello_pairs-two : (items : List Value) (first second : Value) → 2 ≤ length items → first ≡ get_or items 0 first → second ≡ get_or items 1 second
-    → hello_pairs items ≡ (if is_text (codes "hello") first then pairs_of second else None)
-hello_pairs-two [] first second some one two = absurd (omega arith)
-hello_pairs-two (v ∷ []) first second some one two = absurd (omega arith)
-hello_pairs-two (v ∷ w ∷ further) first second some one two = rw (one, two) refl
-
-pub hello_pairs-few : (items : List Value) → length items < 2 → hello_pairs items ≡ None
-hello_pairs-few [] few = refl
-hello_pairs-few (v ∷ []) few = refl
-hello_pairs-few (v ∷ w ∷ further) few = absurd (omega arith)

@@ -1,16 +1,15 @@
 -- The server's packets: their spellings, and that they may be written.
-use Rattle.std.proofs.Common.{◌≡◌, ◌<◌, ◌^◌, ℕ, Bool, true, false, List, [], ◌∷◌, length, refl, ap, arith}
-use Rattle.std.specs.Prelude.{pos, None, codes}
+use Rattle.std.proofs.Common.{◌≡◌, ◌<◌, ◌^◌, ℕ, Bool, true, false, List, length, refl, ap, arith}
+use Rattle.std.specs.Prelude.{None, codes}
 use Rattle.std.specs.Fmt.{digits}
 use Rattle.bencode_values.specs.declared.value.Value.{Value}
 use Rattle.bencode_values.specs.declared.value.Value.TheVariants as V
-use Rattle.bencode_values.specs.declared.value.Key.TheVariants as K
-use Rattle.bencode_values.specs.Grammar.{spelled, is_string, Fits, PairFits}
+use Rattle.bencode_values.specs.Grammar.{spelled, is_string, Fits}
 use Rattle.bencode_values.proofs.Values.{spelled-Int, spelled-Bytes, spelled-List, spelled-Dict, spelled_pair-record, fits-Int, fits-Bytes, fits-List, fits-Dict, fits-pair}
 use Rattle.packet_frames.specs.Written.{frame_bytes, packet_bytes, MayBeWritten}
 use Rattle.hello_caps.specs.declared.caps.HelloFault.{HelloFault}
 use Rattle.hello_caps.specs.declared.caps.HelloFault.TheVariants as F
-use Rattle.hello_caps.specs.Replies.{codings, entry, reason_of, server_hello_value, goodbye_value}
+use Rattle.hello_caps.specs.Replies.{codings, reason_of, server_hello_value, goodbye_value}
 
 -- the server's hello
 pub exact_hello : spelled (server_hello_value false) ≡ codes "l5:hellod7:bencodei1e9:encodingsl5:rgb32e3:lz4i0e7:rencodei0e7:version1:1ee"

@@ -1,3 +1,4 @@
 pub mod Answers
 pub mod Capabilities
 pub mod Replies
+pub mod Table

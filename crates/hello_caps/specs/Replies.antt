@@ -1,6 +1,6 @@
 -- What the server says: its hello, and the last packet to a client that it refuses. The names of packets and keys are
 -- Xpra's, the order of keys and the reasons this project's own.
-use Rattle.std.specs.Prelude.{ℕ, ℤ, pos, Bool, List, [], ◌∷◌, codes, if◌then◌else◌}
+use Rattle.std.specs.Prelude.{ℕ, pos, Bool, List, [], ◌∷◌, codes, if◌then◌else◌}
 use Rattle.bencode_values.specs.declared.value.Key.TheVariants as K
 use Rattle.bencode_values.specs.declared.value.Value.{Value}
 use Rattle.bencode_values.specs.declared.value.Value.TheVariants as V
