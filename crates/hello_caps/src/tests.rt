@@ -16,6 +16,7 @@ fn answer_to(alloc: Global, bytes: &[u8]) -> Result<HelloRead, Fail> {
                 Err("more than one value".into())
             }
         }
+        Read::NoMemory => Err("no memory".into()),
         _ => Err("no value".into()),
     }
 }
@@ -230,7 +231,8 @@ fn a_hello_of_many_keys_is_accepted(rt: HostRuntime) -> Result<(), Fail> {
             let want = b"0123456789abcdef0123456789abcdef".as_slice();
             assert_eq!(rt; caps.uuid.as_slice(), want);
         }
-        _ => return Err("not accepted".into()),
+        HelloRead::Refused(_fault) => return Err("refused".into()),
+        HelloRead::NoMemory => return Err("no memory".into()),
     }
     Ok(())
 }
@@ -268,7 +270,8 @@ fn a_hello_of_a_real_clients_shape_is_accepted(rt: HostRuntime) -> Result<(), Fa
             assert!(rt; caps.lossy);
             assert_eq!(rt; caps.uuid.as_slice().len(), 36);
         }
-        _ => return Err("not accepted".into()),
+        HelloRead::Refused(_fault) => return Err("refused".into()),
+        HelloRead::NoMemory => return Err("no memory".into()),
     }
     Ok(())
 }
