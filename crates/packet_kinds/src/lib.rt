@@ -1,0 +1,13 @@
+//! The packets of both sides as types: how each is read from a value and written, what the server's do
+//! to a picture of the windows, and what a client has said.
+#![tactic(auto)]
+
+mod fault;
+mod from_client;
+mod laws;
+mod to_client;
+
+pub use fault::{KindFault, TalkFault};
+pub use from_client::FromClient;
+pub use laws::nothing_is_shown_at_first;
+pub use to_client::ToClient;
