@@ -9,5 +9,7 @@ mod to_client;
 
 pub use fault::{KindFault, TalkFault};
 pub use from_client::FromClient;
-pub use laws::nothing_is_shown_at_first;
+pub use laws::{
+    a_message_follows, a_message_has_bytes, a_part_shows_nothing, nothing_is_shown_at_first,
+};
 pub use to_client::ToClient;
