@@ -1,5 +1,5 @@
 -- What the definitions of messages and pictures come to.
-use Rattle.std.specs.Prelude.{ℕ, ◌≡◌, ◌≢◌, ◌<◌, Some, None, List, [], ◌++◌, length}
+use Rattle.std.specs.Prelude.{ℕ, ◌≡◌, ◌≢◌, ◌<◌, Some, None, List, [], ◌++◌, length, AllPairs}
 use Rattle.window_model.specs.Desktop.{Window, find_window}
 use Rattle.packet_kinds.specs.declared.to_client.ToClient.{ToClient}
 use Rattle.packet_kinds.specs.Effects.{effect, effect_on}
@@ -25,3 +25,11 @@ MessageHasBytes = (limit : ℕ) (bytes : List ℕ) (m : ToClient) → IsMessage 
 abbrev pub OneWindowChanges : Type 0
 OneWindowChanges = (windows after : List Window) (m : ToClient) (k : ℕ) → effect windows m ≡ Some after
     → find_window after k ≡ effect_on k (find_window windows k) m
+
+-- no two windows have one number
+abbrev pub AreDistinct : List Window → Type 0
+AreDistinct windows = AllPairs (λ lower upper. lower.wid ≢ upper.wid) windows
+
+-- no packet makes a second window of one number
+abbrev pub NumbersStayDistinct : Type 0
+NumbersStayDistinct = (windows after : List Window) (m : ToClient) → AreDistinct windows → effect windows m ≡ Some after → AreDistinct after

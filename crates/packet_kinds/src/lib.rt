@@ -11,5 +11,6 @@ pub use fault::{KindFault, TalkFault};
 pub use from_client::FromClient;
 pub use laws::{
     a_message_follows, a_message_has_bytes, a_part_shows_nothing, nothing_is_shown_at_first,
+    numbers_stay_distinct, one_window_changes,
 };
 pub use to_client::ToClient;
