@@ -46,7 +46,7 @@ find_on_top windows wid k (Some window) e =
     let there = find-append (λ w. eqb w.wid k) (without_window windows wid) (window ∷ []) in
     elim (cases_eq k wid) [ inl same ↦ grind (arith, nat_tests, e, rest, there, number, same) | inr other ↦ grind (arith, nat_tests, rest, there, number, other) ]
 
-same_after : {A : Type 0} (a b : A) → Some a ≡ Some b → a ≡ b
+pub same_after : {A : Type 0} (a b : A) → Some a ≡ Some b → a ≡ b
 same_after a b e = cc
 
 present_on : (k wid : ℕ) (x y : ℤ) (w h : ℕ) (o : Option Window) → (k ≡ wid → is_some o ≡ true) → o ≡ effect_on k o (T.NewWindow wid x y w h)
