@@ -4,3 +4,4 @@ pub mod Shapes
 pub mod Desktops
 pub mod Points
 pub mod Stopping
+mod Examples
