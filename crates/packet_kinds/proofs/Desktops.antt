@@ -1,18 +1,16 @@
 -- Packets keep a desktop.
-use Rattle.std.proofs.Common.{◌≡◌, ◌≢◌, inl, inr, ℕ, ◌+◌, ◌*◌, ◌/◌, ◌%◌, ◌^◌, ◌<◌, ◌≤◌, lit<, ℤ, Bool, true, false, Option, Some, None, List, [], ◌∷◌, ◌++◌, length, get_or, zero, suc, cond, eqb, leb, refl, sym, ap, subst, ◌∙◌, arith}
+use Rattle.std.proofs.Common.{◌≡◌, ℕ, ◌+◌, ◌*◌, ◌/◌, ◌%◌, ◌<◌, lit<, ℤ, Bool, true, false, Option, Some, None, List, [], ◌∷◌, ◌++◌, length, get_or, zero, suc, cond, eqb, refl, sym, subst, ◌∙◌, arith}
 use Rattle.std.specs.Prelude.{not}
-use Rattle.std.specs.List.{All, AllByRecursion, range_with_len, position_or_len}
-use Rattle.std.proofs.lemmas.Bool.{cases_eq, cases_lt, cond_both}
-use Rattle.std.proofs.lemmas.Bool.Decides.{nat_tests}
+use Rattle.std.specs.List.{All, AllByRecursion, position_or_len}
+use Rattle.std.proofs.lemmas.Bool.{cond_both}
 use Rattle.std.proofs.lemmas.List.Folds.{find_at}
 use Rattle.std.proofs.lemmas.Option.{get_or_from_slice_get, slice_get_within}
-use Rattle.std.proofs.lemmas.List.Elements.{All-push, All-map, All-filter, All-get_or, All-from_get_or}
+use Rattle.std.proofs.lemmas.List.Elements.{All-push, All-map, All-filter, All-from_get_or}
 use Rattle.std.proofs.lemmas.List.FromFn.{get_or-map-range_with_len, length-map-range_with_len}
 use Rattle.xp_base.specs.declared.coding.Coding.{Coding}
 use Rattle.xp_base.specs.declared.coding.Coding.TheVariants.{Exact, Lossy}
-use Rattle.xp_base.specs.Points.{Rectangle}
 use Rattle.xp_base.specs.Grid.{place_of}
-use Rattle.window_model.specs.Desktop.{Window, IsWindow, IsDesktop, IsPlace, IsSide, find_window, has_window, fresh_window, changed_window}
+use Rattle.window_model.specs.Desktop.{Window, IsWindow, IsPlace, IsSide, find_window, has_window, fresh_window, changed_window}
 use Rattle.window_model.proofs.Drawings.{IsColour, IsColour-get_or}
 use Rattle.window_model.proofs.Windows.{IsWindow-fresh, IsWindow-placed}
 use Rattle.rgb_encoders.specs.Colour.{colour, expansion}
@@ -20,8 +18,8 @@ use Rattle.rgb_encoders.specs.PixelBytes.{colour_at}
 use Rattle.rgb_encoders.specs.Decoded.{decoded_at, decoded}
 use Rattle.packet_kinds.specs.declared.to_client.ToClient.{ToClient}
 use Rattle.packet_kinds.specs.declared.to_client.ToClient.TheVariants as T
-use Rattle.packet_kinds.specs.Effects.{survives, effect, without_window, on_top, resized_window, moved_window, drawn_window, holds_pixels}
-use Rattle.packet_kinds.specs.Laws.{IsNumber, HasFields, HasBytes, EffectKeepsDesktop}
+use Rattle.packet_kinds.specs.Effects.{survives, effect, without_window, on_top, resized_window, moved_window}
+use Rattle.packet_kinds.specs.Laws.{HasFields, HasBytes, EffectKeepsDesktop}
 use Rattle.packet_kinds.proofs.Windows.{same_after, draws, drawn_after, numbers_stay_distinct}
 
 -- each place of a list of bytes reads as a byte

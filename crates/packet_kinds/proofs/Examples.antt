@@ -1,6 +1,6 @@
 -- The definitions, computed on the bytes of a new window and of a draw in it.
 use Rattle.std.proofs.Common.{◌≡◌, ℕ, List, [], ◌∷◌, ◌++◌, length, refl, ap, ◌∙◌}
-use Rattle.std.specs.Prelude.{ℤ, codes, pos, Option, Some, None, Ok}
+use Rattle.std.specs.Prelude.{ℤ, codes, pos, Some, None, Ok}
 use Rattle.xp_base.specs.declared.coding.Coding.TheVariants.{Exact}
 use Rattle.bencode_values.specs.declared.value.Key.TheVariants as K
 use Rattle.bencode_values.specs.declared.value.Value.{Value}
@@ -17,8 +17,8 @@ use Rattle.packet_frames.proofs.Streams.{waiting, read_on-append, read_on-behind
 use Rattle.packet_kinds.specs.declared.to_client.ToClient.TheVariants as T
 use Rattle.packet_kinds.specs.Items.{items_of, int_of, bytes_of}
 use Rattle.packet_kinds.specs.ToShapes.{to_client}
-use Rattle.packet_kinds.specs.Picture.{Picture, Data, shown_or_shape, shown, picture}
-use Rattle.packet_kinds.proofs.Following.{clear, picture_is}
+use Rattle.packet_kinds.specs.Picture.{Data, shown_or_shape, shown, picture}
+use Rattle.packet_kinds.proofs.Following.{picture_is}
 
 -- what a value is
 items_are : (items : List Value) → items_of (V.List items) ≡ Some items

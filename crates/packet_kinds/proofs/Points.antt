@@ -1,10 +1,9 @@
 -- What a packet makes of a window's points.
-use Rattle.std.proofs.Common.{◌≡◌, ℕ, ◌-◌, ◌*◌, ◌/◌, ◌%◌, ◌<◌, Bool, true, false, Some, None, length, get_or, cond, refl, sym, ap, ◌∙◌, arith}
+use Rattle.std.proofs.Common.{◌≡◌, ℕ, ◌-◌, ◌*◌, ◌/◌, ◌%◌, true, false, Some, get_or, cond, sym, ap, ◌∙◌, arith}
 use Rattle.std.proofs.lemmas.Bool.Decides.{nat_tests}
 use Rattle.std.proofs.lemmas.List.FromFn.{get_or-map-range_with_len}
-use Rattle.xp_base.specs.Points.{Rectangle, is_in, is_within}
+use Rattle.xp_base.specs.Points.{is_in, is_within}
 use Rattle.xp_base.specs.Grid.{number_at, place_of}
-use Rattle.window_model.specs.Desktop.{Window}
 use Rattle.window_model.proofs.Points.{number_at-inside, place_below, place_parts, Some-cond, cond_same, blank_shows_lem, placed_shows_lem}
 use Rattle.rgb_encoders.specs.Decoded.{decoded_at, decoded}
 use Rattle.rgb_encoders.proofs.Points.{length-decoded, number_at-decoded}

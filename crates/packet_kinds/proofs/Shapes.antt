@@ -1,6 +1,6 @@
 -- The fields of packets that are read.
-use Rattle.std.proofs.Common.{◌≡◌, ℕ, ◌+◌, ◌≤◌, ◌<◌, ℤ, pos, negsuc, Bool, true, false, cond, leb, ◌&&◌, List, refl, sym, subst, ◌∙◌, arith}
-use Rattle.std.specs.Prelude.{Option, Some, None, Result, Ok, Err, codes, bytes_eq, slice_get}
+use Rattle.std.proofs.Common.{◌≡◌, ℕ, ◌+◌, ◌≤◌, ℤ, pos, negsuc, Bool, true, false, cond, leb, ◌&&◌, List, refl, subst, arith}
+use Rattle.std.specs.Prelude.{Option, Some, None, Result, Ok, codes, bytes_eq, slice_get}
 use Rattle.std.specs.Option.{option_and_then}
 use Rattle.std.proofs.lemmas.Bool.Decides.{nat_tests}
 use Rattle.std.proofs.lemmas.Int.{ints}
@@ -9,7 +9,7 @@ use Rattle.bencode_values.specs.declared.value.Value.{Value}
 use Rattle.window_model.specs.Desktop.{IsPlace, IsSide}
 use Rattle.packet_kinds.specs.declared.to_client.ToClient.{ToClient}
 use Rattle.packet_kinds.specs.declared.to_client.ToClient.TheVariants as T
-use Rattle.packet_kinds.specs.Items.{need, items_of, int_at, bytes_at, natural, natural_at, place, place_at, wid_at, side_at, point_at, side_from, coding_at, stride_at}
+use Rattle.packet_kinds.specs.Items.{need, items_of, int_at, bytes_at, natural, place, place_at, wid_at, side_at, point_at, side_from, coding_at, stride_at}
 use Rattle.packet_kinds.specs.ToShapes.{new_window_in, lost_window_in, window_resized_in, move_resize_in, raise_window_in, draw_data_in, draw_in, ping_echo_in, to_client_named, to_client}
 use Rattle.packet_kinds.specs.Laws.{IsNumber, IsStride, HasFields, ReadHasFields}
 

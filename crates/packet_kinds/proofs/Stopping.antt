@@ -2,7 +2,6 @@
 use Rattle.std.proofs.Common.{◌≡◌, ◌≢◌, ℕ, List, [], ◌∷◌, ◌++◌, map, refl, sym, ap, subst, ◌∙◌}
 use Rattle.std.specs.Prelude.{Option, Some, None, Result, Ok, Err}
 use Rattle.std.specs.List.{fold}
-use Rattle.std.specs.Option.{option_and_then}
 use Rattle.std.proofs.lemmas.List.{append-nil}
 use Rattle.std.proofs.lemmas.List.Folds.{fold_stays}
 use Rattle.window_model.specs.Desktop.{Window}
@@ -13,7 +12,7 @@ use Rattle.packet_kinds.specs.declared.to_client.ToClient.{ToClient}
 use Rattle.packet_kinds.specs.ToShapes.{to_client}
 use Rattle.packet_kinds.specs.Effects.{effect}
 use Rattle.packet_kinds.specs.Picture.{Picture, ended, shown_or_data, shown_or_shape, shown, picture}
-use Rattle.packet_kinds.specs.Laws.{PictureStops, PictureFolds, effect_after, Leads}
+use Rattle.packet_kinds.specs.Laws.{PictureStops, PictureFolds, effect_after}
 use Rattle.packet_kinds.proofs.Following.{clear, picture_is}
 
 -- Reading on keeps the packets that were read.
