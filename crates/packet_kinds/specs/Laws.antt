@@ -7,12 +7,12 @@ use Rattle.xp_base.specs.Grid.{number_at}
 use Rattle.xp_base.specs.declared.coding.Coding.{Coding}
 use Rattle.bencode_values.specs.declared.value.Value.{Value}
 use Rattle.window_model.specs.Desktop.{Window, IsPlace, IsSide, IsDesktop, find_window, fresh_window}
-use Rattle.rgb_encoders.specs.Decoded.{decoded_at, decoded}
+use Rattle.rgb_encoders.specs.Decoded.{decoded_at, decoded, HoldsPixels}
 use Rattle.packet_frames.specs.Stream.{packets_of}
 use Rattle.packet_kinds.specs.declared.to_client.ToClient.{ToClient}
 use Rattle.packet_kinds.specs.declared.to_client.ToClient.TheVariants as T
 use Rattle.packet_kinds.specs.ToShapes.{to_client}
-use Rattle.packet_kinds.specs.Effects.{survives, resized_window, drawn_window, effect, effect_on}
+use Rattle.packet_kinds.specs.Effects.{survives, resized_window, holds_pixels, drawn_window, effect, effect_on}
 use Rattle.packet_kinds.specs.Picture.{picture}
 use Rattle.packet_kinds.specs.Written.{IsMessage, Show}
 
@@ -86,6 +86,10 @@ DrawShows = (window : Window) (r : Rectangle) (coding : Coding) (stride : ℕ) (
     → length window.pixels ≡ window.w * window.h → is_within window.w window.h x y ≡ true
     → number_at window.w window.h (drawn_window r (decoded coding r.w r.h stride bytes) window).pixels x y
     ≡ (if is_in r x y then Some (decoded_at coding stride bytes (x - r.x) (y - r.y)) else number_at window.w window.h window.pixels x y)
+
+-- a draw's bytes are taken for its pixels exactly where they hold them by the rules of decoding
+abbrev pub DrawHoldsPixels : Type 0
+DrawHoldsPixels = (coding : Coding) (w h stride : ℕ) (bytes : List ℕ) → (holds_pixels coding w h stride bytes ≡ true) ↔ HoldsPixels coding w h stride bytes
 
 -- each point of a new window shows 0
 abbrev pub NewWindowShows : Type 0

@@ -2,7 +2,7 @@
 ghost use Rattle.std.specs.Prelude.{◌≡◌, ℕ, None, []};
 ghost use Rattle.packet_kinds.specs.Picture.{picture};
 ghost use Rattle.packet_kinds.specs.Written.{Show};
-ghost use Rattle.packet_kinds.specs.Laws.{MessageFollows, PartShowsNothing, MessageHasBytes, OneWindowChanges, NumbersStayDistinct, ReadHasFields, EffectKeepsDesktop, DrawShows, NewWindowShows, ResizeShows, PictureStops, PictureFolds};
+ghost use Rattle.packet_kinds.specs.Laws.{MessageFollows, PartShowsNothing, MessageHasBytes, OneWindowChanges, NumbersStayDistinct, ReadHasFields, EffectKeepsDesktop, DrawShows, DrawHoldsPixels, NewWindowShows, ResizeShows, PictureStops, PictureFolds};
 
 /// No bytes show no window.
 pub fn nothing_is_shown_at_first()
@@ -49,6 +49,11 @@ pub fn an_effect_keeps_a_desktop()
 /// showed elsewhere.
 pub fn a_draw_shows()
     ensures { DrawShows }
+{}
+
+/// A draw's bytes are taken for its pixels exactly where decoding takes them.
+pub fn a_draw_holds_its_pixels()
+    ensures { DrawHoldsPixels }
 {}
 
 /// Each point of a new window shows 0.
