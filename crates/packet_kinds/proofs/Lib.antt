@@ -1,0 +1,7 @@
+pub mod Following
+pub mod Windows
+pub mod Shapes
+pub mod Desktops
+pub mod Points
+pub mod Stopping
+mod Examples

@@ -1,0 +1,7 @@
+pub mod Items
+pub mod ToClients
+pub mod ToShapes
+pub mod Effects
+pub mod Picture
+pub mod Written
+pub mod Laws
