@@ -1,4 +1,5 @@
 pub mod Items
+pub mod Fields
 pub mod ToClients
 pub mod ToShapes
 pub mod Effects

@@ -2,12 +2,22 @@
 //! to a picture of the windows, and what a client has said.
 #![tactic(auto)]
 
+mod copies;
 mod fault;
 mod from_client;
+mod items_out;
 mod laws;
 mod to_client;
+mod to_values;
+mod writing;
+mod written;
 
 pub use fault::{KindFault, TalkFault};
 pub use from_client::FromClient;
 pub use laws::nothing_is_shown_at_first;
 pub use to_client::ToClient;
+pub use writing::to_bytes;
+pub use written::{
+    a_plain_message_has_a_small_value, a_plain_message_may_be_written,
+    what_is_written_is_read_as_the_same_message,
+};
