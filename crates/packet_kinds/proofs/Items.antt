@@ -6,7 +6,8 @@ use Rattle.std.proofs.lemmas.Bool.Decides.{nat_tests}
 use Rattle.std.proofs.lemmas.Int.{ints}
 use Rattle.bencode_values.specs.declared.value.Value.{Value}
 use Rattle.bencode_values.specs.declared.value.Value.TheVariants as V
-use Rattle.packet_frames.proofs.Layers.{out-Int, out-Bytes, out-List}
+use Rattle.bencode_values.specs.declared.value.Pair.{Pair}
+use Rattle.packet_frames.proofs.Layers.{out-Int, out-Bytes, out-List, out-Dict}
 use Rattle.window_model.specs.Desktop.{IsSide, IsPlace}
 use Rattle.packet_kinds.specs.Items.{items_layer, int_layer, bytes_layer, items_of, int_of, bytes_of, int_at, bytes_at, natural, natural_at, place, place_at, wid_at, side_at, stride_at, point_at, side_from, need, number, text}
 use Rattle.packet_kinds.specs.Fields.{IsNumber, IsSpan, IsStride}
@@ -22,6 +23,48 @@ int_of-Int n = ap int_layer (out-Int n)
 pub bytes_of-Bytes : (bytes : List ℕ) → bytes_of (V.Bytes bytes) ≡ Some bytes
 unfolding bytes_of
 bytes_of-Bytes bytes = ap bytes_layer (out-Bytes bytes)
+
+module _ (n : ℤ) where
+  pub items_of-Int : items_of (V.Int n) ≡ None
+  unfolding items_of
+  items_of-Int = ap items_layer (out-Int n)
+
+  pub bytes_of-Int : bytes_of (V.Int n) ≡ None
+  unfolding bytes_of
+  bytes_of-Int = ap bytes_layer (out-Int n)
+
+module _ (bytes : List ℕ) where
+  pub items_of-Bytes : items_of (V.Bytes bytes) ≡ None
+  unfolding items_of
+  items_of-Bytes = ap items_layer (out-Bytes bytes)
+
+  pub int_of-Bytes : int_of (V.Bytes bytes) ≡ None
+  unfolding int_of
+  int_of-Bytes = ap int_layer (out-Bytes bytes)
+
+module _ (vs : List Value) where
+  pub int_of-List : int_of (V.List vs) ≡ None
+  unfolding int_of
+  int_of-List = ap int_layer (out-List vs)
+
+  pub bytes_of-List : bytes_of (V.List vs) ≡ None
+  unfolding bytes_of
+  bytes_of-List = ap bytes_layer (out-List vs)
+
+module _ (ps : List Pair) where
+  pub items_of-Dict : items_of (V.Dict ps) ≡ None
+  unfolding items_of
+  items_of-Dict = ap items_layer (out-Dict ps)
+
+  pub int_of-Dict : int_of (V.Dict ps) ≡ None
+  unfolding int_of
+  int_of-Dict = ap int_layer (out-Dict ps)
+
+  pub bytes_of-Dict : bytes_of (V.Dict ps) ≡ None
+  unfolding bytes_of
+  bytes_of-Dict = ap bytes_layer (out-Dict ps)
+
+pub ruleset item_forms = (items_of-List, int_of-Int, bytes_of-Bytes, items_of-Int, bytes_of-Int, items_of-Bytes, int_of-Bytes, int_of-List, bytes_of-List, items_of-Dict, int_of-Dict, bytes_of-Dict)
 
 pub natural_fits : (least most n : ℕ) → least ≤ n → n ≤ most → natural least most (pos n) ≡ Some n
 natural_fits least most n low high =

@@ -1,3 +1,4 @@
+pub mod Answering
 pub mod Items
 pub mod Sizes
 pub mod ToWritten

@@ -2,6 +2,7 @@ pub mod Items
 pub mod Fields
 pub mod ToClients
 pub mod ToShapes
+pub mod Answers
 pub mod Effects
 pub mod Picture
 pub mod Written

@@ -3,12 +3,16 @@
 #![tactic(auto)]
 
 mod copies;
+mod draws_in;
 mod fault;
 mod from_client;
+mod items_in;
 mod items_out;
 mod laws;
 mod to_client;
+mod to_reading;
 mod to_values;
+mod windows_in;
 mod writing;
 mod written;
 
@@ -16,6 +20,7 @@ pub use fault::{KindFault, TalkFault};
 pub use from_client::FromClient;
 pub use laws::nothing_is_shown_at_first;
 pub use to_client::ToClient;
+pub use to_reading::read_to_client;
 pub use writing::to_bytes;
 pub use written::{
     a_plain_message_has_a_small_value, a_plain_message_may_be_written,
