@@ -3,6 +3,9 @@ pub mod Fields
 pub mod ToClients
 pub mod ToShapes
 pub mod Answers
+pub mod FromClients
+pub mod FromShapes
+pub mod FromWritten
 pub mod Effects
 pub mod Picture
 pub mod Written

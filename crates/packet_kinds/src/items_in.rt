@@ -1,9 +1,9 @@
 // Items that were read.
-ghost use Rattle.std.specs.Prelude.{◌≡◌, IfOk, slice_get};
+ghost use Rattle.std.specs.Prelude.{◌≡◌, IfOk, drop, slice_get};
 ghost use Rattle.std.specs.Option.{option_copied};
 ghost use Rattle.packet_kinds.specs.Items.{items_of, int_of, bytes_of, int_at, bytes_at, natural_at, wid_at, place_at, side_at, stride_at, point_at, side_from, coding_of, coding_at};
 
-use crate::copies::copy_value;
+use crate::copies::{copy_items, copy_value};
 use bencode_values::{Items, Value};
 use std::alloc::Global;
 use xp_base::{Bytes, Coding, NoMemory, Wid};
@@ -150,4 +150,14 @@ pub(crate) fn copy_at(alloc: Global, items: &[Value], i: usize) -> Result<Option
         Some(item) => Ok(Some(copy_value(alloc, item)?)),
         None => Ok(None),
     }
+}
+
+/// A copy of the items from there on.
+pub(crate) fn copy_behind(alloc: Global, items: &[Value], i: usize) -> Result<Items, NoMemory>
+    ensures { IfOk result (λ copy. copy ≡ drop i items.now) }
+{
+    if i >= items.len() {
+        return Ok(Items::new(alloc));
+    }
+    copy_items(alloc, &items[i..])
 }

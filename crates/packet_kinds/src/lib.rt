@@ -6,6 +6,8 @@ mod copies;
 mod draws_in;
 mod fault;
 mod from_client;
+mod from_reading;
+mod from_values;
 mod items_in;
 mod items_out;
 mod laws;
@@ -18,11 +20,12 @@ mod written;
 
 pub use fault::{KindFault, TalkFault};
 pub use from_client::FromClient;
+pub use from_reading::read_from_client;
 pub use laws::nothing_is_shown_at_first;
 pub use to_client::ToClient;
 pub use to_reading::read_to_client;
-pub use writing::to_bytes;
+pub use writing::{from_bytes_of, to_bytes};
 pub use written::{
     a_plain_message_has_a_small_value, a_plain_message_may_be_written,
-    what_is_written_is_read_as_the_same_message,
+    what_a_client_writes_is_read_as_the_same_message, what_is_written_is_read_as_the_same_message,
 };

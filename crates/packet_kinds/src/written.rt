@@ -7,6 +7,9 @@ ghost use Rattle.packet_kinds.specs.declared.to_client.ToClient.{ToClient};
 ghost use Rattle.packet_kinds.specs.Fields.{HasFields, IsPlain, drawn_size};
 ghost use Rattle.packet_kinds.specs.ToClients.{to_value, to_chunk};
 ghost use Rattle.packet_kinds.specs.ToShapes.{to_client};
+ghost use Rattle.packet_kinds.specs.declared.from_client.FromClient.{FromClient};
+ghost use Rattle.packet_kinds.specs.FromClients.{from_value, IsNamed};
+ghost use Rattle.packet_kinds.specs.FromShapes.{from_client};
 
 /// The value of a message, with the chunk's bytes put in, is read as this message.
 pub fn what_is_written_is_read_as_the_same_message()
@@ -22,4 +25,9 @@ pub fn a_plain_message_may_be_written()
 pub fn a_plain_message_has_a_small_value()
     ensures small { (m : ToClient) → IsPlain m → HasFields m → length (spelled (to_value m)) ≤ 1000 }
     ensures within { (m : ToClient) (limit : ℕ) → IsPlain m → HasFields m → 1000 ≤ limit → drawn_size m ≤ limit → IsWithin limit (to_value m) (to_chunk m) }
+{}
+
+/// The value of a client's message is read as this message.
+pub fn what_a_client_writes_is_read_as_the_same_message()
+    ensures { (m : FromClient) → IsNamed m → from_client (from_value m) ≡ Ok m }
 {}
