@@ -6,6 +6,7 @@ pub mod Answers
 pub mod FromClients
 pub mod FromShapes
 pub mod FromWritten
+pub mod Talk
 pub mod Effects
 pub mod Picture
 pub mod Written

@@ -8,6 +8,7 @@ mod fault;
 mod from_client;
 mod from_reading;
 mod from_values;
+mod heard;
 mod items_in;
 mod items_out;
 mod laws;
@@ -21,6 +22,10 @@ mod written;
 pub use fault::{KindFault, TalkFault};
 pub use from_client::FromClient;
 pub use from_reading::read_from_client;
+pub use heard::{
+    a_talk_goes_packet_by_packet, a_written_message_is_heard, more_bytes_only_say_more,
+    nothing_is_heard_behind_a_fault, nothing_is_said_at_first,
+};
 pub use laws::nothing_is_shown_at_first;
 pub use to_client::ToClient;
 pub use to_reading::read_to_client;
