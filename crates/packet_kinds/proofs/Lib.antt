@@ -1,4 +1,5 @@
 pub mod Answering
+pub mod FromSizes
 pub mod FromWritten
 pub mod Items
 pub mod Sizes

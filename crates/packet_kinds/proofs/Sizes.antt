@@ -70,7 +70,7 @@ small_place x is = small_int x (place_in_range x is)
 small_no_pairs : IsSmall no_pairs
 small_no_pairs = record { short = rw (spelled-Dict []) (omega arith); fits = fits-Dict 30 [] tt }
 
-small_text : (bytes : List ℕ) → length bytes ≤ 30 → is_string bytes ≡ true → IsSmall (text bytes)
+pub small_text : (bytes : List ℕ) → length bytes ≤ 30 → is_string bytes ≡ true → IsSmall (text bytes)
 small_text bytes short is = record { short = short_text bytes short; fits = fits-Bytes 31 bytes is }
 
 small_coding : (coding : Coding) → IsSmall (text (coding_name coding))
@@ -140,11 +140,11 @@ small_items (T.PingEcho t) plain ok = (omega arith, (small_text _ (omega arith) 
 small_items (T.Disconnect reason) plain ok = absurd plain
 small_items T.Other plain ok = absurd plain
 
-all_short : (vs : List Value) → AllByRecursion IsSmall vs → AllByRecursion IsShort vs
+pub all_short : (vs : List Value) → AllByRecursion IsSmall vs → AllByRecursion IsShort vs
 all_short [] all = tt
 all_short (v ∷ vs) all = (all.0.short, all_short vs all.1)
 
-all_fit : (vs : List Value) → AllByRecursion IsSmall vs → AllByRecursion (Fits 31) vs
+pub all_fit : (vs : List Value) → AllByRecursion IsSmall vs → AllByRecursion (Fits 31) vs
 all_fit [] all = tt
 all_fit (v ∷ vs) all = (all.0.fits, all_fit vs all.1)
 

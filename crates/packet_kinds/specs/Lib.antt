@@ -4,6 +4,7 @@ pub mod ToClients
 pub mod ToShapes
 pub mod Answers
 pub mod FromClients
+pub mod FromFields
 pub mod FromShapes
 pub mod FromWritten
 pub mod Talk

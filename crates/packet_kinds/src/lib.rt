@@ -32,5 +32,9 @@ pub use to_reading::read_to_client;
 pub use writing::{from_bytes_of, to_bytes};
 pub use written::{
     a_plain_message_has_a_small_value, a_plain_message_may_be_written,
-    what_a_client_writes_is_read_as_the_same_message, what_is_written_is_read_as_the_same_message,
+    a_small_packet_of_a_client_may_be_written, what_a_client_writes_is_read_as_the_same_message,
+    what_is_written_is_read_as_the_same_message,
 };
+
+#[cfg(test)]
+mod tests;

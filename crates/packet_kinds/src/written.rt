@@ -1,5 +1,5 @@
 // What holds of all messages that are written.
-ghost use Rattle.std.specs.Prelude.{◌≡◌, ◌<◌, ◌≤◌, ◌^◌, ℕ, Some, Ok, length};
+ghost use Rattle.std.specs.Prelude.{◌≡◌, ◌<◌, ◌≤◌, ◌^◌, ℕ, Some, None, Ok, length};
 ghost use Rattle.bencode_values.specs.declared.value.Value.{Value};
 ghost use Rattle.bencode_values.specs.Grammar.{spelled};
 ghost use Rattle.packet_frames.specs.Written.{filled, MayBeWritten, IsWithin};
@@ -9,6 +9,7 @@ ghost use Rattle.packet_kinds.specs.ToClients.{to_value, to_chunk};
 ghost use Rattle.packet_kinds.specs.ToShapes.{to_client};
 ghost use Rattle.packet_kinds.specs.declared.from_client.FromClient.{FromClient};
 ghost use Rattle.packet_kinds.specs.FromClients.{from_value, IsNamed};
+ghost use Rattle.packet_kinds.specs.FromFields.{IsSmallPacket};
 ghost use Rattle.packet_kinds.specs.FromShapes.{from_client};
 
 /// The value of a message, with the chunk's bytes put in, is read as this message.
@@ -30,4 +31,11 @@ pub fn a_plain_message_has_a_small_value()
 /// The value of a client's message is read as this message.
 pub fn what_a_client_writes_is_read_as_the_same_message()
     ensures { (m : FromClient) → IsNamed m → from_client (from_value m) ≡ Ok m }
+{}
+
+/// A client's message of a few integers and a short byte string may be written, and is within each limit of at least
+/// 1,000 bytes.
+pub fn a_small_packet_of_a_client_may_be_written()
+    ensures written { (m : FromClient) → IsSmallPacket m → MayBeWritten (from_value m) None }
+    ensures within { (m : FromClient) (limit : ℕ) → IsSmallPacket m → 1000 ≤ limit → IsWithin limit (from_value m) None }
 {}
