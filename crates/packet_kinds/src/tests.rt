@@ -1,9 +1,14 @@
 // The worked packets, each kind of packet read back, and each item that does not fit.
-ghost use Rattle.std.specs.Prelude.{◌<◌, ◌^◌};
+ghost use Rattle.std.specs.Prelude.{◌≡◌, ◌<◌, ◌^◌, pos, negsuc, codes, IfOk, Some, [], ◌∷◌};
+ghost use Rattle.bencode_values.specs.declared.value.Value.TheVariants as V;
+ghost use Rattle.packet_kinds.specs.declared.from_client.FromClient.TheVariants as C;
+ghost use Rattle.packet_kinds.specs.declared.to_client.ToClient.TheVariants as T;
 ghost use Rattle.packet_kinds.specs.Fields.{HasFields, IsPlain, drawn_size};
+ghost use Rattle.packet_kinds.specs.FromClients.{IsNamed};
+ghost use Rattle.packet_kinds.specs.FromFields.{IsSmallPacket};
 
 use super::*;
-use bencode_values::{Read, Value, read_value};
+use bencode_values::{Items, Read, Value, read_value};
 use std::alloc::Global;
 use std::test::Fail;
 use xp_base::{Bytes, Coding, Wid};
@@ -207,5 +212,208 @@ fn a_clients_packets_are_read_or_their_first_wrong_item_is_named(
         let said = format!(in rt.alloc(); "{message:?}")?;
         assert_eq!(rt; said.as_str(), want, "of {bytes}");
     }
+    Ok(())
+}
+
+/// The bytes of a message without caps or reason.
+fn written(alloc: Global, message: &ToClient) -> Result<Vec<u8>, Fail>
+    requires plain { IsPlain message.now }
+    requires fields { HasFields message.now }
+    requires sized { drawn_size message.now < 2 ^ 32 }
+{
+    a_plain_message_may_be_written();
+    let bytes = to_bytes(alloc, message)?;
+    Ok(bytes)
+}
+
+#[test]
+fn an_exact_draw_of_one_pixel_has_79_bytes(rt: HostRuntime) -> Result<(), Fail> {
+    let alloc = rt.alloc();
+    let draw = ToClient::Draw {
+        wid: Wid::new(1).ok_or("a window's number")?,
+        x: 0,
+        y: 0,
+        w: 1,
+        h: 1,
+        coding: Coding::Exact,
+        bytes: Bytes::new(Vec::from_slice(alloc, &[0x30, 0x20, 0x10, 0xff])?),
+        packet_sequence: 1,
+        rowstride: 4,
+    };
+    let bytes = written(alloc, &draw)?;
+    assert_eq!(rt; bytes.len(), 79);
+    let want =
+        b"\x50\x00\x00\x07\x00\x00\x00\x04\x30\x20\x10\xff\x50\x00\x00\x00\x00\x00\x00\x3bl4:drawi1ei0ei0ei1ei1e5:rgb320:i1ei4ed10:rgb_format4:BGRXee";
+    assert_eq!(rt; bytes.as_slice(), want.as_slice());
+    Ok(())
+}
+
+#[test]
+fn a_lossy_draw_names_its_coding(rt: HostRuntime) -> Result<(), Fail> {
+    let alloc = rt.alloc();
+    let draw = ToClient::Draw {
+        wid: Wid::new(2).ok_or("a window's number")?,
+        x: 3,
+        y: 4,
+        w: 1,
+        h: 1,
+        coding: Coding::Lossy,
+        bytes: Bytes::new(Vec::from_slice(alloc, &[0x06, 0x11])?),
+        packet_sequence: 9,
+        rowstride: 2,
+    };
+    let bytes = written(alloc, &draw)?;
+    let want =
+        b"\x50\x00\x00\x07\x00\x00\x00\x02\x06\x11\x50\x00\x00\x00\x00\x00\x00\x3dl4:drawi2ei3ei4ei1ei1e5:rgb160:i9ei2ed10:rgb_format6:BGR565ee";
+    assert_eq!(rt; bytes.as_slice(), want.as_slice());
+    Ok(())
+}
+
+/// The bytes of the main packet, where its header says how many they are.
+fn content(bytes: &[u8]) -> Option<&[u8]> {
+    if bytes.len() < 8 || bytes[..7] != [0x50, 0, 0, 0, 0, 0, 0] {
+        return None;
+    }
+    let content = &bytes[8..];
+    if content.len() != usize::from(bytes[7]) {
+        return None;
+    }
+    Some(content)
+}
+
+#[test]
+fn the_servers_packets_have_their_items_in_order(rt: HostRuntime) -> Result<(), Fail> {
+    let alloc = rt.alloc();
+    let wid = Wid::new(1).ok_or("a window's number")?;
+    let new_window = written(
+        alloc,
+        &ToClient::NewWindow {
+            wid,
+            x: -2,
+            y: 3,
+            w: 4,
+            h: 5,
+        },
+    )?;
+    let lost = written(alloc, &ToClient::LostWindow { wid })?;
+    let resized = written(alloc, &ToClient::WindowResized { wid, w: 4, h: 5 })?;
+    let moved = written(
+        alloc,
+        &ToClient::WindowMoveResize {
+            wid,
+            x: 2,
+            y: -3,
+            w: 4,
+            h: 5,
+        },
+    )?;
+    let raised = written(alloc, &ToClient::RaiseWindow { wid })?;
+    let echo = written(alloc, &ToClient::PingEcho { t: -7 })?;
+    let cases: [(&[u8], &[u8]); 6] = [
+        (new_window.as_slice(), b"l10:new-windowi1ei-2ei3ei4ei5edee"),
+        (lost.as_slice(), b"l11:lost-windowi1ee"),
+        (resized.as_slice(), b"l14:window-resizedi1ei4ei5ee"),
+        (moved.as_slice(), b"l18:window-move-resizei1ei2ei-3ei4ei5ee"),
+        (raised.as_slice(), b"l12:raise-windowi1ee"),
+        (echo.as_slice(), b"l9:ping_echoi-7ee"),
+    ];
+    for (bytes, want) in cases {
+        assert_eq!(rt; content(bytes).ok_or("no packet")?, want);
+    }
+    Ok(())
+}
+
+/// A packet with the reason `not hello`.
+fn refusal(alloc: Global) -> Result<ToClient, Fail>
+    ensures { IfOk result (λ message. message ≡ T.Disconnect (Some (V.Bytes (codes "not hello")))) }
+{
+    let reason = Value::Bytes(Bytes::new(Vec::from_slice(alloc, b"not hello")?));
+    Ok(ToClient::Disconnect {
+        reason: Some(reason),
+    })
+}
+
+#[test]
+fn a_reason_and_caps_are_written_as_they_are(rt: HostRuntime) -> Result<(), Fail> {
+    let alloc = rt.alloc();
+    let message = refusal(alloc)?;
+    let bytes = to_bytes(alloc, &message)?;
+    let want = b"l10:disconnect9:not helloe";
+    assert_eq!(rt;
+        content(bytes.as_slice()).ok_or("no packet")?,
+        want.as_slice()
+    );
+    let hello = to_bytes(alloc, &ToClient::Hello { caps: None })?;
+    assert_eq!(rt;
+        content(hello.as_slice()).ok_or("no packet")?,
+        b"l5:helloe".as_slice()
+    );
+    Ok(())
+}
+
+/// Four integers.
+fn four(alloc: Global, a: i64, b: i64, c: i64, d: i64) -> Result<Items, Fail>
+    ensures { IfOk result (λ items. items ≡ V.Int a ∷ V.Int b ∷ V.Int c ∷ V.Int d ∷ []) }
+{
+    let mut items = Items::new(alloc);
+    items.push(Value::Int(a))?;
+    items.push(Value::Int(b))?;
+    items.push(Value::Int(c))?;
+    items.push(Value::Int(d))?;
+    Ok(items)
+}
+
+/// Whether this is the content of a client's small packet.
+fn says(alloc: Global, message: &FromClient, want: &[u8]) -> Result<bool, Fail>
+    requires named { IsNamed message.now }
+    requires small { IsSmallPacket message.now }
+{
+    a_small_packet_of_a_client_may_be_written();
+    let bytes = from_bytes_of(alloc, message)?;
+    Ok(content(bytes.as_slice()).ok_or("no packet")? == want)
+}
+
+/// An acknowledgement with an empty message.
+fn acknowledgement(alloc: Global) -> Result<FromClient, Fail>
+    ensures { IfOk result (λ message. message ≡ C.DamageSequence (pos 1) (pos 1) (pos 1) (pos 1) (negsuc 0) (Some (V.Bytes []))) }
+{
+    Ok(FromClient::DamageSequence {
+        packet_sequence: 1,
+        wid: 1,
+        width: 1,
+        height: 1,
+        decode_time: -1,
+        message: Some(Value::Bytes(Bytes::new(Vec::new(alloc)))),
+    })
+}
+
+#[test]
+fn an_acknowledgement_and_a_map_have_their_items_in_order(rt: HostRuntime) -> Result<(), Fail> {
+    let alloc = rt.alloc();
+    let drawn = acknowledgement(alloc)?;
+    let want = b"l15:damage-sequencei1ei1ei1ei1ei-1e0:e";
+    assert!(rt; says(alloc, &drawn, want.as_slice())?);
+    let further = four(alloc, 0, -1, 2, 3)?;
+    let mapped = FromClient::MapWindow { wid: 1, further };
+    let want = b"l10:map-windowi1ei0ei-1ei2ei3ee";
+    assert!(rt; says(alloc, &mapped, want.as_slice())?);
+    Ok(())
+}
+
+#[test]
+fn a_clients_other_packets_have_their_items_in_order(rt: HostRuntime) -> Result<(), Fail> {
+    let alloc = rt.alloc();
+    let further = Items::new(alloc);
+    let unmapped = FromClient::UnmapWindow { wid: 1, further };
+    assert!(rt; says(alloc, &unmapped, b"l12:unmap-windowi1ee".as_slice())?);
+    let further = Items::new(alloc);
+    let refreshed = FromClient::BufferRefresh { wid: 1, further };
+    assert!(rt; says(alloc, &refreshed, b"l14:buffer-refreshi1ee".as_slice())?);
+    let further = Items::new(alloc);
+    let pinged = FromClient::Ping { t: 12, further };
+    assert!(rt; says(alloc, &pinged, b"l4:pingi12ee".as_slice())?);
+    let further = Items::new(alloc);
+    let left = FromClient::Disconnect { further };
+    assert!(rt; says(alloc, &left, b"l10:disconnecte".as_slice())?);
     Ok(())
 }
