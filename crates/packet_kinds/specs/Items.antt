@@ -9,19 +9,19 @@ use Rattle.bencode_values.specs.declared.value.Value.TheVariants as V
 use Rattle.bencode_values.specs.declared.value.Value.TheOpen.{Value-F}
 use Rattle.bencode_values.specs.declared.value.Pair.{Pair}
 
-abbrev int_layer : Value-F Value Pair → Option ℤ
+abbrev pub int_layer : Value-F Value Pair → Option ℤ
 int_layer (Value-F.Int n) = Some n
 int_layer (Value-F.Bytes text) = None
 int_layer (Value-F.List items) = None
 int_layer (Value-F.Dict pairs) = None
 
-abbrev bytes_layer : Value-F Value Pair → Option (List ℕ)
+abbrev pub bytes_layer : Value-F Value Pair → Option (List ℕ)
 bytes_layer (Value-F.Int n) = None
 bytes_layer (Value-F.Bytes text) = Some text
 bytes_layer (Value-F.List items) = None
 bytes_layer (Value-F.Dict pairs) = None
 
-abbrev items_layer : Value-F Value Pair → Option (List Value)
+abbrev pub items_layer : Value-F Value Pair → Option (List Value)
 items_layer (Value-F.Int n) = None
 items_layer (Value-F.Bytes text) = None
 items_layer (Value-F.List items) = Some items

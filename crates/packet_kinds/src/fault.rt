@@ -1,6 +1,7 @@
 // Why a value is no packet of its kind.
 use packet_frames::FrameFault;
 use thiserror::Error;
+use xp_base::NoMemory;
 
 /// Why a value is not read as a packet.
 #[derive(Clone, Copy, Debug, PartialEq, Eq, Error)]
@@ -11,6 +12,17 @@ pub enum KindFault {
     Shape(u8),
     #[error("out of memory")]
     NoMemory,
+}
+
+impl From<NoMemory> for KindFault {
+    ghost use Rattle.std.specs.Prelude.{◌≡◌};
+    ghost use Rattle.packet_kinds.specs.declared.fault.KindFault.TheVariants as F;
+
+    ghost from_gives = { λ _ fault. fault ≡ F.NoMemory };
+
+    fn from(_error: NoMemory) -> KindFault {
+        KindFault::NoMemory
+    }
 }
 
 /// Why what a client said goes no further.
