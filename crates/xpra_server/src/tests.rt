@@ -174,6 +174,7 @@ fn a_client_is_sent_hello_window_and_draw(rt: HostRuntime) -> Result<(), Fail> {
     let mut out = MemSink::new(alloc, numbers(alloc, &[])?);
     let script = b"open 1 0 0 2 2\nfill 1 0 0 2 2 ff0000\npeer exact\n";
     let left = played(alloc, "play", script, &mut out)?;
+    assert_eq!(rt; left.status, 0);
     assert_eq!(rt; left.bay.sent_bytes(), SENT.as_slice());
     Ok(())
 }
@@ -198,6 +199,7 @@ fn each_connection_is_closed_once_at_the_end_of_a_run(rt: HostRuntime) -> Result
     let mut out = MemSink::new(alloc, numbers(alloc, &[])?);
     let bay = ClosingBay::new(MuteBay::new(alloc, 2, 10));
     let outcome = top(&words, &mut input, &mut out, bay);
+    assert_eq!(rt; outcome.status, 0);
     assert_eq!(rt;
         outcome.ends.as_slice(),
         [End::Unbuilt, End::Unbuilt].as_slice()
