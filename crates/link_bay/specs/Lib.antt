@@ -4,4 +4,6 @@ pub mod Answers
 pub mod Counted
 pub mod Writes
 pub mod Peers
+pub mod ExactPeer
+pub mod OneSteps
 pub mod OneKept

@@ -4,6 +4,7 @@
 
 mod bay;
 mod counters;
+mod laws;
 mod mute_bay;
 mod one_bay;
 mod order;
@@ -13,6 +14,7 @@ mod writes;
 
 pub use bay::{Accept, Bay, Gave, Wrote};
 pub use counters::Counters;
+pub use laws::{an_announcement_is_answered_by_a_map, appending_follows_on};
 pub use mute_bay::MuteBay;
 pub use one_bay::OneBay;
 pub use order::{Kind, Name, Order};

@@ -10,7 +10,8 @@ use std::marker::Model;
 use xp_base::{Conn, NoMemory};
 
 /// At most one exact peer without a uuid, which `order` adds. It says an exact client's hello, and
-/// answers each window's announcement by a map of the window. Every write takes all.
+/// answers each window's announcement by a map of the window. Every write takes all. What each call
+/// does beside the trait's rows is its clause `exact`.
 #[derive(Drop)]
 pub struct OneBay {
     alloc: Global,
@@ -80,8 +81,11 @@ impl OneBay {
 }
 
 impl Bay for OneBay {
-    ghost use Rattle.std.specs.Prelude.{true};
+    ghost use Rattle.std.specs.Prelude.{◌≡◌, ◌<◌, ◌≤◌, ◌+◌, ◌^◌, true};
+    ghost use Rattle.link_bay.specs.Connections.{OthersStay, AllStay};
+    ghost use Rattle.link_bay.specs.Answers.{AcceptGives, ReadGives, WriteGives, OrderGives};
     ghost use Rattle.link_bay.specs.Peers.{one_connection, one_provider};
+    ghost use Rattle.link_bay.specs.OneSteps.{AcceptOfOne, ReadOfOne, WriteOfOne, OrderOfOne};
 
     ghost tells = { true };
 
@@ -89,7 +93,12 @@ impl Bay for OneBay {
 
     ghost provider = { one_provider };
 
-    fn accept(&mut self) -> Accept {
+    fn accept(&mut self) -> Accept
+        ensures exact { AcceptOfOne self.old self.new result }
+        ensures answer { AcceptGives true (one_provider self.old) (one_provider self.new) (one_connection self.new) result }
+        ensures others { OthersStay (one_connection self.old) (one_connection self.new) (one_provider self.old).count }
+        ensures numbered { (one_provider self.new).count + (one_provider self.new).room < 2 ^ 32 }
+    {
         if !self.joined || self.accepted {
             self.lulls = self.lulls.saturating_add(1);
             return Accept::Nobody;
@@ -98,7 +107,14 @@ impl Bay for OneBay {
         Accept::Conn(Conn(0))
     }
 
-    fn read(&mut self, c: Conn, into: &mut Vec<u8>, max: u32) -> Gave {
+    fn read(&mut self, c: Conn, into: &mut Vec<u8>, max: u32) -> Gave
+        requires known { c.0 < (one_provider self.old).count }
+        requires some { 1 ≤ max }
+        ensures exact { ReadOfOne self.old self.new into.old.items into.new.items max result }
+        ensures answer { ReadGives (one_connection self.old c.0) (one_connection self.new c.0) into.old.items into.new.items max result }
+        ensures others { OthersStay (one_connection self.old) (one_connection self.new) c.0 }
+        ensures provider { one_provider self.new ≡ one_provider self.old }
+    {
         let rest = &self.said[self.place..];
         let count = rest.len().min(max as usize);
         if count == 0 {
@@ -113,7 +129,13 @@ impl Bay for OneBay {
         Gave::Bytes(count as u32)
     }
 
-    fn write(&mut self, c: Conn, piece: &[u8]) -> Wrote {
+    fn write(&mut self, c: Conn, piece: &[u8]) -> Wrote
+        requires known { c.0 < (one_provider self.old).count }
+        ensures exact { WriteOfOne self.old self.new piece.now result }
+        ensures answer { WriteGives (one_connection self.old c.0) (one_connection self.new c.0) piece.now result }
+        ensures others { OthersStay (one_connection self.old) (one_connection self.new) c.0 }
+        ensures provider { one_provider self.new ≡ one_provider self.old }
+    {
         let count = piece.len().min(u32::MAX as usize);
         let before = self.sent.len();
         if self.writes.reserve(1).is_err()
@@ -142,9 +164,19 @@ impl Bay for OneBay {
         Wrote::Took(count as u32)
     }
 
-    fn close(&mut self, c: Conn) {}
+    fn close(&mut self, c: Conn)
+        requires known { c.0 < (one_provider self.old).count }
+        ensures exact { self.new ≡ self.old }
+        ensures connections { AllStay (one_connection self.old) (one_connection self.new) }
+        ensures provider { one_provider self.new ≡ one_provider self.old }
+    {}
 
-    fn order(&mut self, order: &Order) -> Result<(), NoMemory> {
+    fn order(&mut self, order: &Order) -> Result<(), NoMemory>
+        ensures exact { OrderOfOne self.old self.new order.now result }
+        ensures answer { OrderGives (one_provider self.old) (one_provider self.new) order.now result }
+        ensures connections { AllStay (one_connection self.old) (one_connection self.new) }
+        ensures numbered { (one_provider self.new).count + (one_provider self.new).room < 2 ^ 32 }
+    {
         if self.joined {
             return Ok(());
         }

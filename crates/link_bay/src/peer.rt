@@ -1,5 +1,6 @@
 // What an exact peer in memory says.
-ghost use Rattle.std.specs.Prelude.{◌≤◌, ◌+◌, ◌<◌, ◌^◌, IfOk, IfSome, length};
+ghost use Rattle.std.specs.Prelude.{◌≡◌, ◌≤◌, ◌+◌, ◌<◌, ◌^◌, ◌++◌, IfOk, OnOk, ◌==◌, ◌&&◌, IsTrue, MatchOption, drop, length, slice_index};
+ghost use Rattle.link_bay.specs.ExactPeer.{nothing_yet, follow, size_in, answer_to, is_announcement, map_of, main_packet};
 
 use std::alloc::Global;
 use xp_base::NoMemory;
@@ -24,41 +25,66 @@ pub struct Answered {
 
 /// Follows the bytes by their packets' headers alone, and answers each window's announcement.
 pub fn answers(alloc: Global, sent: &[u8]) -> Result<Answered, NoMemory>
-    ensures { IfOk result (λ a. a.used ≤ length sent.now) }
+    ensures used { IfOk result (λ a. a.used ≤ length sent.now) }
+    ensures said { IfOk result (λ a. follow nothing_yet sent.now ≡ record { said = a.bytes.items; rest = drop a.used sent.now }) }
 {
     let mut bytes = Vec::new(alloc);
     let mut used = 0;
-    'packets: while let Some(size) = content_size(&sent[used..]) {
-        let content = &sent[used + HEADER..used + HEADER + size];
-        let is_main = sent[used + 3] == 0;
-        if is_main && content.len() >= 17 && content[..14] == ANNOUNCEMENT[..] {
-            answer(&mut bytes, &content[14..content.len() - 3])?;
-        }
-        used += HEADER + size;
+    'packets: while let Some(size) = frame_size(&sent[used..]) {
+        answer(&mut bytes, &sent[used..used + size])?;
+        used += size;
     }
     Ok(Answered { bytes, used })
 }
 
-/// The size of a packet's content, where the bytes begin with a whole packet.
-fn content_size(bytes: &[u8]) -> Option<usize>
-    ensures whole { IfSome result (λ size. size + 8 ≤ length bytes.now) }
-    ensures small { IfSome result (λ size. size < 2 ^ 32) }
+/// The size of the frame that the bytes begin with, where it is whole.
+fn frame_size(bytes: &[u8]) -> Option<usize>
+    ensures { MatchOption result (length bytes.now < 8 + size_in bytes.now) (λ size. (size ≡ 8 + size_in bytes.now) × (size ≤ length bytes.now)) }
 {
     if bytes.len() < HEADER {
         return None;
     }
-    let size = u32::from_be_bytes([bytes[4], bytes[5], bytes[6], bytes[7]]) as usize;
-    if bytes.len() - HEADER < size {
+    let size = u32::from(bytes[4]) * 0x1_000_000
+        + u32::from(bytes[5]) * 0x10_000
+        + u32::from(bytes[6]) * 0x100
+        + u32::from(bytes[7]);
+    let whole = HEADER + size as usize;
+    if bytes.len() < whole {
         return None;
     }
-    Some(size)
+    Some(whole)
 }
 
-/// The map of the window that these numbers announce.
-fn answer(bytes: &mut Vec<u8>, numbers: &[u8]) -> Result<(), NoMemory>
-    requires { length numbers.now + 17 < 2 ^ 32 }
+/// Adds what is said to a whole frame.
+fn answer(bytes: &mut Vec<u8>, frame: &[u8]) -> Result<(), NoMemory>
+    requires long { 8 ≤ length frame.now }
+    requires small { length frame.now < 8 + 2 ^ 32 }
+    ensures { OnOk result (bytes.new.items ≡ bytes.old.items ++ answer_to frame.now) }
 {
-    let size = (MAP.len() + numbers.len() + 1) as u32;
+    if announces(frame) {
+        push_map(bytes, &frame[HEADER..])?;
+    }
+    Ok(())
+}
+
+/// Whether a whole frame is a main packet that announces a window.
+fn announces(frame: &[u8]) -> bool
+    requires { 8 ≤ length frame.now }
+    ensures says { result ≡ (slice_index frame.now 3 == 0 && is_announcement (drop 8 frame.now)) }
+    ensures long { IsTrue result → 22 ≤ length frame.now }
+{
+    frame[3] == 0 && frame[HEADER..].starts_with(ANNOUNCEMENT)
+}
+
+/// Adds the map of the window that this content announces.
+fn push_map(bytes: &mut Vec<u8>, content: &[u8]) -> Result<(), NoMemory>
+    requires long { 14 ≤ length content.now }
+    requires small { length content.now < 2 ^ 32 }
+    ensures { OnOk result (bytes.new.items ≡ bytes.old.items ++ main_packet (map_of content.now)) }
+{
+    let count = content.len().saturating_sub(17);
+    let numbers = &content[14..14 + count];
+    let size = (MAP.len() + count + 1) as u32;
     bytes.extend_from_slice(b"P\x00\x00\x00")?;
     bytes.extend_from_slice(&size.to_be_bytes())?;
     bytes.extend_from_slice(MAP)?;

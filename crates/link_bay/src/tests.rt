@@ -6,7 +6,7 @@ use xp_base::{Conn, Wid};
 const MAP: &[u8; 38] = b"P\x00\x00\x00\x00\x00\x00\x1el10:map-windowi1ei0ei0ei2ei2ee";
 
 #[test]
-fn one_peer_says_hello_and_maps_what_is_announced(rt: HostRuntime) -> Result<(), Fail> {
+fn one_peer_says_hello_once_and_answers_no_chunk(rt: HostRuntime) -> Result<(), Fail> {
     let alloc = rt.alloc();
     let mut bay = PassingBay::new(OneBay::new(alloc));
     assert_eq!(rt; bay.accept(), Accept::Nobody);
@@ -18,6 +18,13 @@ fn one_peer_says_hello_and_maps_what_is_announced(rt: HostRuntime) -> Result<(),
     bay.order(&join)?;
     assert_eq!(rt; bay.accept(), Accept::Conn(Conn(0)));
     assert_eq!(rt; bay.accept(), Accept::Nobody);
+    let mut said = Vec::new(alloc);
+    assert_eq!(rt; bay.read(Conn(0), &mut said, 100), Gave::Bytes(39));
+    assert_eq!(rt; said.as_slice(), EXACT_HELLO.as_slice());
+    assert_eq!(rt; bay.read(Conn(0), &mut said, 100), Gave::Again);
+    let chunk = b"P\x00\x00\x07\x00\x00\x00\x20l10:new-windowi1ei0ei0ei2ei2edee";
+    assert_eq!(rt; bay.write(Conn(0), chunk), Wrote::Took(40));
+    assert_eq!(rt; bay.read(Conn(0), &mut said, 100), Gave::Again);
     Ok(())
 }
 

@@ -10,14 +10,13 @@ IsFailed I.Long = ⊥
 IsFailed I.Failed = Unit {0}
 IsFailed I.NoMemory = ⊥
 
--- more bytes than this, where they are told
-abbrev pub IsLonger : ℕ → Option (List ℕ) → Type 0
-IsLonger limit None = Unit {0}
-IsLonger limit (Some bytes) = limit < length bytes
+-- more bytes than this were read, from the front of those that were left, where these are told
+abbrev pub ReadsPast : ℕ → Option (List ℕ) → Option (List ℕ) → Type 0
+ReadsPast limit left left' = (bytes : List ℕ) × HandsOut left left' bytes × (limit < length bytes)
 
 -- the bytes left before and after, and the answer
 abbrev pub ReadsAll : Option (List ℕ) → Option (List ℕ) → ℕ → Input → Type 0
 ReadsAll left left' limit (I.Whole text) = HandsOut left left' text.items × HasNoneLeft left' × (length text.items ≤ limit)
-ReadsAll left left' limit I.Long = IsLonger limit left
+ReadsAll left left' limit I.Long = ReadsPast limit left left'
 ReadsAll left left' limit I.Failed = Unit {0}
 ReadsAll left left' limit I.NoMemory = Unit {0}

@@ -1,5 +1,5 @@
 -- What the program's words and input come to, and what is written with each status. This project's own.
-use Rattle.std.specs.Prelude.{ℕ, ◌≡◌, ◌≢◌, All, IsOk, Option, Some, None, Result, Ok, Err, List, [], ◌∷◌, codes}
+use Rattle.std.specs.Prelude.{ℕ, ◌≡◌, ◌≢◌, ◌≤◌, length, take, All, IsOk, Option, Some, None, Result, Ok, Err, List, [], ◌∷◌, codes}
 use Rattle.xp_base.specs.Told.{told_append}
 use Rattle.paint_script.specs.declared.line.Line.{Line}
 use Rattle.paint_script.specs.Reading.{script_of}
@@ -54,3 +54,21 @@ pub record AreEnds (ends : List End) : Type 0 where
 abbrev pub Faults : Option (List ℕ) → Option (List ℕ) → Option (List ℕ) → Type 0
 Faults None taken taken' = Unit {0}
 Faults (Some text) taken taken' = (written : List ℕ) × IsFaultOf (script_of text) written × (taken' ≡ told_append taken written)
+
+-- a part of this text from its front was written, none of it or all of it perhaps
+abbrev pub WritesPartOf : List ℕ → Option (List ℕ) → Option (List ℕ) → Type 0
+WritesPartOf text taken taken' = (n : ℕ) × (n ≤ length text) × (taken' ≡ told_append taken (take n text))
+
+-- what a run over a text prints: the report with these ends, or the fault line where it is no script
+abbrev pub IsPrinted : Result (List Line) ℕ → List End → List ℕ → Type 0
+IsPrinted (Ok lines) ends printed = printed ≡ report (last_desk (paint_lines lines)) ends
+IsPrinted (Err number) ends printed = printed ≡ fault_line number
+
+-- of an input that doesn't tell its bytes: what a run over some text prints
+abbrev pub IsPrintedOf : Option (List ℕ) → List End → List ℕ → Type 0
+IsPrintedOf None ends printed = (judged : Result (List Line) ℕ) × IsPrinted judged ends printed
+IsPrintedOf (Some text) ends printed = IsPrinted (script_of text) ends printed
+
+-- a part of what the run prints was written
+abbrev pub WritesPart : Option (List ℕ) → List End → Option (List ℕ) → Option (List ℕ) → Type 0
+WritesPart left ends taken taken' = (printed : List ℕ) × IsPrintedOf left ends printed × WritesPartOf printed taken taken'

@@ -1,10 +1,10 @@
 // The top call.
-ghost use Rattle.std.specs.Prelude.{◌≡◌, ◌≤◌, ◌⊎◌, ◌↔◌, IsTrue, true, [], codes, length, map, string_bytes};
+ghost use Rattle.std.specs.Prelude.{◌≡◌, ◌≢◌, ◌≤◌, ◌⊎◌, ◌↔◌, IsTrue, true, [], codes, length, map, string_bytes};
 ghost use Rattle.xp_base.specs.Counts.{Rose};
 ghost use Rattle.xp_base.specs.Told.{HasNoneLeft, told_append};
 ghost use Rattle.link_bay.specs.Provider.{IsFresh};
-ghost use Rattle.xpra_server.specs.Statuses.{IsPlay, Reports, Faults, IsScript, AreEnds, Asks};
-ghost use Rattle.xpra_server.specs.Read.{IsLonger};
+ghost use Rattle.xpra_server.specs.Statuses.{IsPlay, Reports, Faults, IsScript, AreEnds, Asks, WritesPartOf, WritesPart};
+ghost use Rattle.xpra_server.specs.Read.{ReadsPast};
 ghost use Rattle.xpra_server.specs.Report.{report as report_text};
 ghost use Rattle.xpra_server.specs.Texts.{fault_line};
 ghost use Rattle.paint_script.specs.Painting.{last_desk};
@@ -51,14 +51,20 @@ pub fn top<S: Source, K: Sink, B: Bay + Drop>(
     ensures report { result.status ≡ 0 → Reports (S.source input.old).left result.ends.items (K.sink out.old).taken (K.sink out.new).taken }
     ensures input { result.status ≡ 3 → Rose (S.source input.old).faults (S.source input.new).faults }
     ensures output { result.status ≡ 4 → Rose (K.sink out.old).faults (K.sink out.new).faults }
+    ensures input_well { result.status ≢ 3 → (S.source input.new).faults ≡ (S.source input.old).faults }
+    ensures output_well { result.status ≢ 4 → (K.sink out.new).faults ≡ (K.sink out.old).faults }
+    ensures usage_part { ¬ IsPlay (map string_bytes words.now.items) → (result.status ≡ 4) ⊎ (result.status ≡ 5) → WritesPartOf usage_line (K.sink out.old).taken (K.sink out.new).taken }
+    ensures part { IsPlay (map string_bytes words.now.items) → (result.status ≡ 4) ⊎ (result.status ≡ 5)
+        → WritesPart (S.source input.old).left result.ends.items (K.sink out.old).taken (K.sink out.new).taken }
     ensures accept { result.status ≡ 6 → Rose (B.provider bay).faults (B.provider result.bay).faults }
     ensures statuses { result.status ≤ 6 }
     ensures read { result.status ≡ 0 → HasNoneLeft (S.source input.new).left }
-    ensures judged { result.status ≡ 2 → HasNoneLeft (S.source input.new).left ⊎ IsLonger 65536 (S.source input.old).left }
+    ensures judged { result.status ≡ 2 → HasNoneLeft (S.source input.new).left ⊎ ReadsPast 65536 (S.source input.old).left (S.source input.new).left }
     ensures valid { (result.status ≡ 0) ⊎ (result.status ≡ 6) → IsScript (S.source input.old).left }
-    ensures unread { result.status ≡ 1 → S.source input.new ≡ S.source input.old }
+    ensures unread { ¬ IsPlay (map string_bytes words.now.items) → S.source input.new ≡ S.source input.old }
     ensures unwritten { (result.status ≡ 3) ⊎ (result.status ≡ 6) → K.sink out.new ≡ K.sink out.old }
-    ensures untouched { (result.status ≡ 1) ⊎ (result.status ≡ 2) ⊎ (result.status ≡ 3) → result.bay ≡ bay }
+    ensures unused { ¬ IsPlay (map string_bytes words.now.items) → result.bay ≡ bay }
+    ensures untouched { (result.status ≡ 2) ⊎ (result.status ≡ 3) → result.bay ≡ bay }
     ensures counted { length result.ends.items ≡ (B.provider result.bay).count }
     ensures ended { result.status ≡ 0 → AreEnds result.ends.items }
     ensures asked { result.status ≡ 0 → Asks (S.source input.old).left (B.provider bay).asked (B.provider result.bay).asked }
@@ -106,6 +112,9 @@ fn play_script<K: Sink, B: Bay + Drop>(
     ensures statuses { (result.status ≡ 0) ⊎ (result.status ≡ 4) ⊎ (result.status ≡ 5) ⊎ (result.status ≡ 6) }
     ensures report { result.status ≡ 0 → (K.sink out.new).taken ≡ told_append (K.sink out.old).taken (report_text (last_desk (paint_lines script.now)) result.ends.items) }
     ensures output { result.status ≡ 4 → Rose (K.sink out.old).faults (K.sink out.new).faults }
+    ensures output_well { result.status ≢ 4 → (K.sink out.new).faults ≡ (K.sink out.old).faults }
+    ensures part { (result.status ≡ 4) ⊎ (result.status ≡ 5)
+        → WritesPartOf (report_text (last_desk (paint_lines script.now)) result.ends.items) (K.sink out.old).taken (K.sink out.new).taken }
     ensures accept { result.status ≡ 6 → Rose (B.provider bay).faults (B.provider result.bay).faults }
     ensures unwritten { result.status ≡ 6 → K.sink out.new ≡ K.sink out.old }
     ensures counted { length result.ends.items ≡ (B.provider result.bay).count }
@@ -130,6 +139,8 @@ fn refuse<K: Sink, B: Bay + Drop>(alloc: Global, line: u32, out: &mut K, bay: B)
     ensures statuses { (result.status ≡ 2) ⊎ (result.status ≡ 4) ⊎ (result.status ≡ 5) }
     ensures text { result.status ≡ 2 → (K.sink out.new).taken ≡ told_append (K.sink out.old).taken (fault_line line) }
     ensures output { result.status ≡ 4 → Rose (K.sink out.old).faults (K.sink out.new).faults }
+    ensures output_well { result.status ≢ 4 → (K.sink out.new).faults ≡ (K.sink out.old).faults }
+    ensures part { (result.status ≡ 4) ⊎ (result.status ≡ 5) → WritesPartOf (fault_line line) (K.sink out.old).taken (K.sink out.new).taken }
     ensures bay { result.bay ≡ bay }
     ensures ends { result.ends.items ≡ [] }
 {
@@ -146,6 +157,8 @@ fn written<K: Sink>(out: &mut K, text: &[u8], status: u8) -> u8
     ensures statuses { (result ≡ status) ⊎ (result ≡ 4) ⊎ (result ≡ 5) }
     ensures text { result ≡ status → (K.sink out.new).taken ≡ told_append (K.sink out.old).taken text.now }
     ensures output { result ≡ 4 → Rose (K.sink out.old).faults (K.sink out.new).faults }
+    ensures output_well { result ≢ 4 → (K.sink out.new).faults ≡ (K.sink out.old).faults }
+    ensures part { (result ≡ 4) ⊎ (result ≡ 5) → WritesPartOf text.now (K.sink out.old).taken (K.sink out.new).taken }
 {
     match out.put(text) {
         Put::Done => status,

@@ -24,8 +24,8 @@ const CHUNK: u32 = 4096;
 pub fn read_all<S: Source>(alloc: Global, input: &mut S, limit: usize) -> Input
     requires { limit ≤ 1_000_000_000 }
     ensures answer { ReadsAll (S.source input.old).left (S.source input.new).left limit result }
-    ensures later { (S.source input.old).faults ≤ (S.source input.new).faults }
     ensures cause { IsFailed result → Rose (S.source input.old).faults (S.source input.new).faults }
+    ensures well { ¬ IsFailed result → (S.source input.new).faults ≡ (S.source input.old).faults }
 {
     let mut text = Vec::new(alloc);
     'reads: while text.len() <= limit {

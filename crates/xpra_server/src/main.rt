@@ -2,6 +2,8 @@
 #![tactic(auto)]
 
 mod calls;
+#[cfg(test)]
+mod closing_bay;
 mod input;
 mod playing;
 mod report;

@@ -1,6 +1,8 @@
 use crate::calls::{Outcome, top};
-use link_bay::{MuteBay, OneBay};
-use session_core::End;
+use crate::closing_bay::ClosingBay;
+use link_bay::{Kind, MuteBay, Name, OneBay, Order};
+use paint_script::{Script, ScriptRead, read_script};
+use session_core::{Accepted, End, Session};
 use std::alloc::Global;
 use std::test::Fail;
 use xp_base::{MemSink, MemSource};
@@ -172,6 +174,62 @@ fn a_client_is_sent_hello_window_and_draw(rt: HostRuntime) -> Result<(), Fail> {
     let mut out = MemSink::new(alloc, numbers(alloc, &[])?);
     let script = b"open 1 0 0 2 2\nfill 1 0 0 2 2 ff0000\npeer exact\n";
     let left = played(alloc, "play", script, &mut out)?;
+    assert_eq!(rt; left.status, 0);
     assert_eq!(rt; left.bay.sent_bytes(), SENT.as_slice());
+    Ok(())
+}
+
+#[test]
+fn each_connection_is_closed_once_at_the_end_of_a_run(rt: HostRuntime) -> Result<(), Fail> {
+    let alloc = rt.alloc();
+    let words = words_of(alloc, "play")?;
+    for (script, closes) in [
+        (b"open 1 0 0 1 1\npeer exact\n".as_slice(), 1),
+        (b"peer exact\n".as_slice(), 1),
+        (b"open 1 0 0 1 1\n".as_slice(), 0),
+    ] {
+        let mut input = MemSource::new(script.to_vec(alloc)?, numbers(alloc, &[])?);
+        let mut out = MemSink::new(alloc, numbers(alloc, &[])?);
+        let bay = ClosingBay::new(OneBay::new(alloc));
+        let outcome = top(&words, &mut input, &mut out, bay);
+        assert_eq!(rt; outcome.status, 0);
+        assert_eq!(rt; outcome.bay.closes, [closes, 0, 0, 0]);
+    }
+    let mut input = MemSource::new(Vec::new(alloc), numbers(alloc, &[])?);
+    let mut out = MemSink::new(alloc, numbers(alloc, &[])?);
+    let bay = ClosingBay::new(MuteBay::new(alloc, 2, 10));
+    let outcome = top(&words, &mut input, &mut out, bay);
+    assert_eq!(rt; outcome.status, 0);
+    assert_eq!(rt;
+        outcome.ends.as_slice(),
+        [End::Unbuilt, End::Unbuilt].as_slice()
+    );
+    assert_eq!(rt; outcome.bay.closes, [1, 1, 0, 0]);
+    Ok(())
+}
+
+/// The script that a text is.
+fn script_of(alloc: Global, text: &[u8]) -> Result<Script, Fail> {
+    match read_script(alloc, text) {
+        ScriptRead::Valid(script) => Ok(script),
+        _ => Err("no script".into()),
+    }
+}
+
+#[test]
+fn a_session_that_is_abandoned_closes_its_connections_once(rt: HostRuntime) -> Result<(), Fail> {
+    let alloc = rt.alloc();
+    let script = script_of(alloc, b"peer exact\n")?;
+    let bay = ClosingBay::new(OneBay::new(alloc));
+    let Ok(mut session) = Session::new(alloc, script.paints(alloc)?, bay) else {
+        return Err("no session".into());
+    };
+    session.order(&Order::Join(Kind::Exact, Name::new(Vec::new(alloc))))?;
+    let Accepted::Conn(_) = session.accept() else {
+        return Err("nobody".into());
+    };
+    let left = session.abandon();
+    assert_eq!(rt; left.ends.as_slice(), [End::Unended].as_slice());
+    assert_eq!(rt; left.bay.closes, [1, 0, 0, 0]);
     Ok(())
 }

@@ -1,17 +1,28 @@
-use Rattle.std.proofs.Common.{arith, ◌≡◌, ◌++◌, ◌∙◌, ◌∷◌, [], ℕ, List, take, sym, ap, length, replicate}
+use Rattle.std.proofs.Common.{arith, refl, subst, true, ◌≡◌, ◌≤◌, ◌-◌, ◌++◌, ◌∙◌, ℕ, length, take, drop, ap}
 use Rattle.std.proofs.lemmas.Grind.{common_steps}
-use Rattle.std.proofs.lemmas.List.{take-append-le, length-take-le}
+use Rattle.link_bay.specs.ExactPeer.{nothing_yet, follow}
 use Rattle.link_bay.specs.Peers.{OnePeer}
 use Rattle.link_bay.specs.Writes.{heard_of}
-use Rattle.link_bay.specs.declared.writes.Write.{Write}
-use Rattle.link_bay.proofs.Peers.{only_zero, one_took, heard_of-push}
+use Rattle.link_bay.proofs.ExactPeers.{all_left}
+use Rattle.link_bay.proofs.Peers.{only_zero, is_accepted, kept_at_write, one_written}
 use Rattle.link_bay.proofs.one_bay.OneBayBay.write.Goals as goal
 
-pub returns-clause-answer : goal.returns-clause-answer
-returns-clause-answer c =
-    let only : c.args.c.0 ≡ 0 = only_zero c.args.self.now.accepted c.args.c.0 c.requires.known in
-    let place : ℕ = c.self.inside.place in
-    let said : List ℕ = c.self.inside.said.items in
+pub invariant_of-self-2 : goal.invariant_of-self-2
+invariant_of-self-2 c =
+    let followed : ℕ = c.self.inside.followed in
+    let there : c.self.inside.accepted ≡ true = ap (λ (p : OnePeer). p.accepted) c.self.view_is ∙ is_accepted c.args.self.now.accepted c.args.c.0 c.requires.known in
+    let sent : c.extend_from_slice.new.self.items ≡ c.self.inside.sent.items ++ take c.min-count.result c.args.piece.now = grind (arith, common_steps) in
+    let said : c.extend_from_slice-2.new.self.items ≡ c.self.inside.said.items ++ c.in-Ok.answered.bytes.items = grind (arith, common_steps) in
+    let all : take (length c.deref.result.now - followed) (drop followed c.deref.result.now) ≡ drop followed c.extend_from_slice.new.self.items =
+    all_left followed c.deref.result.now ∙ ap (drop followed) c.deref.ensures.value in
+    kept_at_write c.self.inside.joined c.self.inside.accepted c.self.inside.said.items c.extend_from_slice-2.new.self.items c.self.inside.sent.items c.extend_from_slice.new.self.items
+    (take c.min-count.result c.args.piece.now) c.in-Ok.answered.bytes.items c.self.inside.place followed c.in-Ok.answered.used c.self.inside.waits c.self.inside.unheard
+    c.saturating_add-self-inside.result c.self.inside.writes.items c.push_reserved.new.self.items c.self.invariant there sent said
+    (subst (λ xs. c.in-Ok.answered.used ≤ length xs) all c.in-Ok.ensures.used)
+    (subst (λ xs. follow nothing_yet xs ≡ record { said = c.in-Ok.answered.bytes.items; rest = drop c.in-Ok.answered.used xs }) all c.in-Ok.ensures.said)
+
+pub returns-clause-exact : goal.returns-clause-exact
+returns-clause-exact c =
     let peer : OnePeer = record {
       joined = c.self.inside.joined;
       accepted = c.self.inside.accepted;
@@ -22,14 +33,25 @@ returns-clause-answer c =
       waits = c.self.inside.waits;
       unheard = c.self.inside.unheard;
     } in
-    let last : Write = record { taken = c.min-count.result; given = c.self.inside.place } in
-    let more : c.extend_from_slice-2.new.self.items ≡ c.self.inside.said.items ++ c.as_slice.result.now = grind (arith, common_steps) in
-    let written : c.push_reserved.new.self.items ≡ c.self.inside.writes.items ++ last ∷ [] = grind (arith, common_steps) in
-    let sent : c.extend_from_slice.new.self.items ≡ c.self.inside.sent.items ++ take c.min-count.result c.args.piece.now = grind (arith, common_steps) in
-    let given : take c.self.inside.place c.extend_from_slice-2.new.self.items ≡ take c.self.inside.place c.self.inside.said.items =
-    ap (take c.self.inside.place) more ∙ take-append-le c.self.inside.place c.self.inside.said.items c.as_slice.result.now c.self.invariant.handed in
-    let heard : heard_of c.push_reserved.new.self.items ≡ heard_of c.self.inside.writes.items ++ replicate c.min-count.result (length (take c.self.inside.place c.self.inside.said.items)) =
-    ap heard_of written ∙ heard_of-push c.self.inside.writes.items last
-    ∙ ap (λ n. heard_of c.self.inside.writes.items ++ replicate c.min-count.result n) (sym (length-take-le c.self.inside.place c.self.inside.said.items c.self.invariant.handed)) in
-    rw (← c.self.view_is, only) (one_took peer c.extend_from_slice.new.self.items (take c.self.inside.place c.extend_from_slice-2.new.self.items) (heard_of c.push_reserved.new.self.items) c.args.piece.now
-    c.min-count.result c.saturating_add-self-inside.result (grind (arith, common_steps)) sent given heard (grind (arith, common_steps)))
+    let both = one_written peer c.self.inside.place c.self.inside.said.items c.extend_from_slice-2.new.self.items c.as_slice.result.now c.extend_from_slice.new.self.items
+    c.args.piece.now c.self.inside.writes.items c.push_reserved.new.self.items c.min-count.result c.saturating_add-self-inside.result c.self.invariant.handed refl refl
+    (grind (arith, common_steps)) (grind (arith, common_steps)) (grind (arith, common_steps)) (grind (arith, common_steps)) (grind (arith, common_steps)) in
+    rw (← c.self.view_is) both.0
+
+pub returns-clause-answer : goal.returns-clause-answer
+returns-clause-answer c =
+    let peer : OnePeer = record {
+      joined = c.self.inside.joined;
+      accepted = c.self.inside.accepted;
+      sent = c.self.inside.sent.items;
+      given = take c.self.inside.place c.self.inside.said.items;
+      heard = heard_of c.self.inside.writes.items;
+      lulls = c.self.inside.lulls;
+      waits = c.self.inside.waits;
+      unheard = c.self.inside.unheard;
+    } in
+    let both = one_written peer c.self.inside.place c.self.inside.said.items c.extend_from_slice-2.new.self.items c.as_slice.result.now c.extend_from_slice.new.self.items
+    c.args.piece.now c.self.inside.writes.items c.push_reserved.new.self.items c.min-count.result c.saturating_add-self-inside.result c.self.invariant.handed refl refl
+    (grind (arith, common_steps)) (grind (arith, common_steps)) (grind (arith, common_steps)) (grind (arith, common_steps)) (grind (arith, common_steps)) in
+    let only : c.args.c.0 ≡ 0 = only_zero c.args.self.now.accepted c.args.c.0 c.requires.known in
+    rw (← c.self.view_is, only) both.1
