@@ -19,3 +19,4 @@ pub mod Tellings
 pub mod Attachings
 pub mod Steadies
 pub mod Shown
+pub mod Owing

@@ -178,7 +178,7 @@ nothing_told : (desk : List Window) (was now : Option (List ℕ)) (c : ClientSee
 nothing_told desk None now c is told = subst (IsToldWhereTold desk c) (sym is) tt
 nothing_told desk (Some sent) now c is told = subst (IsToldWhereTold desk c) (sym (is ∙ ap (λ (bs : List ℕ). Some bs) (append-nil sent))) told
 
-writes_told : (desk : List Window) (most : ℕ) (was now : ConnectionRecord) (c c' : ClientSeen) (answer : Sent) → Writes most was now c answer c' → IsToldWhereTold desk c was.sent → IsToldWhereTold desk c' now.sent
+pub writes_told : (desk : List Window) (most : ℕ) (was now : ConnectionRecord) (c c' : ClientSeen) (answer : Sent) → Writes most was now c answer c' → IsToldWhereTold desk c was.sent → IsToldWhereTold desk c' now.sent
 writes_told desk most was now c c' S.Closed writes told = absurd writes
 writes_told desk most was now c c' S.Idle writes told = subst (λ (d : ClientSeen). IsToldWhereTold desk d now.sent) (sym writes.2) (subst (IsToldWhereTold desk c) (sym (ap (λ r. r.sent) writes.1)) told)
 writes_told desk most was now c c' (S.Took n) writes told =
@@ -203,7 +203,7 @@ slot_failed desk most was now None slot' fails same told = absurd fails
 slot_failed desk most was now (Some c) slot' fails same told = λ d is. subst (IsToldWhereTold desk d) (sym (ap (λ r. r.sent) fails.1.1)) (told d (sym same ∙ is))
 
 -- a capture
-captures_told : (desk : List Window) (window : Window) (sent : List ℕ) (c c' : ClientSeen) (answer : Captured) → IsWindow window → find_window desk window.wid ≡ Some window → CapturesWindow window c answer c'
+pub captures_told : (desk : List Window) (window : Window) (sent : List ℕ) (c c' : ClientSeen) (answer : Captured) → IsWindow window → find_window desk window.wid ≡ Some window → CapturesWindow window c answer c'
     → IsTold desk c sent → IsTold desk c' sent
 captures_told desk window sent c c' C.Closed is found captures told = subst (λ (d : ClientSeen). IsTold desk d sent) (sym captures.1) told
 captures_told desk window sent c c' C.Unmapped is found captures told = subst (λ (d : ClientSeen). IsTold desk d sent) (sym captures.4) told
@@ -251,7 +251,7 @@ hears_first : (lines : List Paint) (desk : List Window) (sent bytes : List ℕ) 
 hears_first lines desk sent bytes c c' is off (inl part) told = subst (λ (d : ClientSeen). IsTold desk d sent) (sym part.1) (told_read desk c sent c.maps bytes told)
 hears_first lines desk sent bytes c c' is off (inr hello) told = hears_maps lines desk sent hello.0 (attached desk c) c' hello.2 (told_attached desk c sent c.maps c.unread is off told)
 
-hears_told : (lines : List Paint) (desk : List Window) (sent bytes : List ℕ) (c c' : ClientSeen) → IsDesktop desk → Hears lines desk c bytes c' → IsTold desk c sent → IsTold desk c' sent
+pub hears_told : (lines : List Paint) (desk : List Window) (sent bytes : List ℕ) (c c' : ClientSeen) → IsDesktop desk → Hears lines desk c bytes c' → IsTold desk c sent → IsTold desk c' sent
 hears_told lines desk sent bytes c c' is hears told = go c.greeted refl hears
   where
     go : (b : Bool) → c.greeted ≡ b → HearsAs b lines desk c (c.unread ++ bytes) c' → IsTold desk c' sent
@@ -322,22 +322,23 @@ steady_accepted {connection} {lines} {place} {desk} {clients} {ends} {count} con
           (ap connection' s.session.known ∙ fresh);
     }))
 
+-- a paint line was applied to the desktop and for the client
+pub line_told : (desk : List Window) (line : Paint) → IsDesktop desk → IsPaintOn desk line → (c : ClientSeen) (sent : List ℕ) → IsTold desk c sent → IsTold (painted desk line) (painted_client line c) sent
+line_told desk (Open wid x y w h) is may c sent told = told_opened desk c sent (record { wid = wid; x = x; y = y; w = w; h = h }) (record {
+  number = record { first = may.first; last = omega (arith, may.last) };
+  across = may.across;
+  down = may.down;
+  wide = may.wide;
+  high = may.high;
+}) may.new told
+line_told desk (Fill wid x y w h colour) is may c sent told = told_filled desk c sent wid (rectangle x y w h) colour is told
+
 -- a paint line was applied to the desktop and for each client
 pub painted_told : (connection : ℕ → ConnectionRecord) (desk desk' : List Window) (line : Paint) (clients clients' : List (Option ClientSeen)) → IsDesktop desk → IsPaintOn desk line → desk' ≡ painted desk line
     → plain_clients clients' ≡ map (option_map (painted_client line)) (plain_clients clients) → AreTold connection desk (plain_clients clients) → AreTold connection desk' (plain_clients clients')
 painted_told connection desk desk' line clients clients' is may after changed told =
     subst (λ (ws : List Window). AreTold connection ws (plain_clients clients')) (sym after)
-    (subst (AreTold connection (painted desk line)) (sym changed) (told_all connection desk (painted desk line) (painted_client line) (plain_clients clients) (λ c sent. one line may c sent) told))
-  where
-    one : (line : Paint) → IsPaintOn desk line → (c : ClientSeen) (sent : List ℕ) → IsTold desk c sent → IsTold (painted desk line) (painted_client line c) sent
-    one (Open wid x y w h) may c sent told = told_opened desk c sent (record { wid = wid; x = x; y = y; w = w; h = h }) (record {
-      number = record { first = may.first; last = omega (arith, may.last) };
-      across = may.across;
-      down = may.down;
-      wide = may.wide;
-      high = may.high;
-    }) may.new told
-    one (Fill wid x y w h colour) may c sent told = told_filled desk c sent wid (rectangle x y w h) colour is told
+    (subst (AreTold connection (painted desk line)) (sym changed) (told_all connection desk (painted desk line) (painted_client line) (plain_clients clients) (line_told desk line is may) told))
 
 -- what is kept looks the same
 pub steady_plain : {connection : ℕ → ConnectionRecord} {lines : List Paint} {place : ℕ} {desk : List Window} {clients : List (Option ClientSeen)} {ends : List End} {count : ℕ}

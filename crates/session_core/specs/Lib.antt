@@ -14,3 +14,4 @@ pub mod Steps
 pub mod Laws
 pub mod Owed
 pub mod Shown
+pub mod Changes

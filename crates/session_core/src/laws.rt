@@ -3,6 +3,19 @@ ghost use Rattle.std.specs.Prelude.{◌≡◌, true, List, ℕ};
 ghost use Rattle.window_model.specs.Desktop.{Window, IsDesktop};
 ghost use Rattle.session_core.specs.Clients.{ClientSeen};
 ghost use Rattle.session_core.specs.Laws.{RectangleMarked, WholeMarked, TakenGone};
+ghost use Rattle.session_core.specs.Changes.{
+  PaintKeeps,
+  HearingKeeps,
+  CaptureKeeps,
+  WriteKeeps,
+  FillOwes,
+  OpenOwes,
+  AttachOwes,
+  MapsOwe,
+  CaptureOwes,
+  WriteOwes,
+  FreshOwes,
+};
 ghost use Rattle.session_core.specs.Shown.{OwesWhatDiffers, WillShowTheDesktop, WindowsAreSteady};
 ghost use Rattle.session_core.specs.Told.{IsTold};
 
@@ -37,4 +50,26 @@ pub fn what_waits_lays_out_the_desktop()
 /// owed only in front of the window's announcement.
 pub fn waiting_draws_are_current()
     ensures { (desk : List Window) (c : ClientSeen) (sent : List ℕ) → (told : IsTold desk c sent) → c.greeted ≡ true → WindowsAreSteady desk c sent told }
+{}
+
+/// Each step of a client keeps that each differing pixel is owed: a paint line, what a client says, a capture
+/// and a write.
+pub fn each_step_keeps_what_is_told()
+    ensures paint { PaintKeeps }
+    ensures hearing { HearingKeeps }
+    ensures capture { CaptureKeeps }
+    ensures write { WriteKeeps }
+{}
+
+/// How each step changes what a client is owed. A fill adds its rectangle, a new window its whole, and an accepted
+/// hello makes the whole of each window of the desktop owed; maps and captures change nothing; a packet that was
+/// wholly written takes the points away that stood in its relief and in nothing else.
+pub fn each_step_changes_owed_so()
+    ensures fill { FillOwes }
+    ensures opening { OpenOwes }
+    ensures attach { AttachOwes }
+    ensures maps { MapsOwe }
+    ensures capture { CaptureOwes }
+    ensures write { WriteOwes }
+    ensures fresh { FreshOwes }
 {}
