@@ -1,17 +1,16 @@
 -- The sizes of what clients write.
-use Rattle.std.proofs.Common.{◌≡◌, ℕ, ◌+◌, ◌≤◌, true, List, [], ◌∷◌, length, refl, sym, subst, arith}
-use Rattle.std.specs.Prelude.{ℤ, Option, Some, None, codes}
+use Rattle.std.proofs.Common.{ℕ, ◌≤◌, List, [], ◌∷◌, length, refl, sym, subst, arith}
+use Rattle.std.specs.Prelude.{Option, Some, None}
 use Rattle.std.specs.List.{AllByRecursion}
 use Rattle.bencode_values.specs.declared.value.Value.{Value}
-use Rattle.bencode_values.specs.declared.value.Value.TheVariants as V
 use Rattle.bencode_values.specs.Grammar.{spelled}
 use Rattle.bencode_values.proofs.Values.{fits-List}
 use Rattle.packet_frames.specs.Written.{MayBeWritten, IsWithin}
 use Rattle.packet_kinds.specs.declared.from_client.FromClient.{FromClient}
 use Rattle.packet_kinds.specs.declared.from_client.FromClient.TheVariants as C
-use Rattle.packet_kinds.specs.Items.{text, optional}
+use Rattle.packet_kinds.specs.Items.{optional}
 use Rattle.packet_kinds.specs.FromClients.{from_items, from_value}
-use Rattle.packet_kinds.specs.FromFields.{IsIntegerItem, AreFew, IsShortMessage, IsSmallPacket}
+use Rattle.packet_kinds.specs.FromFields.{IsIntegerItem, IsShortMessage, IsSmallPacket}
 use Rattle.packet_kinds.proofs.Sizes.{IsSmall, small_int, small_text, list_size, all_short, all_fit}
 
 small_integers : (items : List Value) → AllByRecursion IsIntegerItem items → AllByRecursion IsSmall items

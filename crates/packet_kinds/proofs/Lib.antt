@@ -11,5 +11,6 @@ pub mod FromWritten
 pub mod Items
 pub mod Samples
 pub mod Sizes
+pub mod TalkExamples
 pub mod Talks
 pub mod ToWritten

@@ -1,6 +1,6 @@
 -- Packets that the tests write.
-use Rattle.std.proofs.Common.{◌≡◌, ℕ, true, List, [], ◌∷◌, length, refl, arith}
-use Rattle.std.specs.Prelude.{ℤ, Some, None, codes}
+use Rattle.std.proofs.Common.{List, refl, arith}
+use Rattle.std.specs.Prelude.{Some, None, codes}
 use Rattle.std.specs.List.{AllByRecursion}
 use Rattle.bencode_values.specs.declared.value.Value.{Value}
 use Rattle.bencode_values.specs.declared.value.Value.TheVariants as V

@@ -1,5 +1,5 @@
 -- The sizes of what is written.
-use Rattle.std.proofs.Common.{◌≡◌, ℕ, ◌+◌, ◌*◌, ◌<◌, ◌≤◌, ◌^◌, true, List, [], ◌∷◌, ◌++◌, length, map, refl, sym, ap, ◌∙◌, arith, length-append}
+use Rattle.std.proofs.Common.{◌≡◌, ℕ, ◌+◌, ◌*◌, ◌<◌, ◌≤◌, ◌^◌, true, List, [], ◌∷◌, length, map, refl, arith, length-append}
 use Rattle.std.specs.Prelude.{ℤ, pos, negsuc, nat_lt, codes}
 use Rattle.std.specs.List.{concat, AllByRecursion}
 use Rattle.std.specs.Fmt.{decimal, signed_decimal, digits}
@@ -11,14 +11,14 @@ use Rattle.xp_base.specs.declared.coding.Coding.TheVariants.{Exact, Lossy}
 use Rattle.bencode_values.specs.declared.value.Key.TheVariants as K
 use Rattle.bencode_values.specs.declared.value.Value.{Value}
 use Rattle.bencode_values.specs.declared.value.Value.TheVariants as V
-use Rattle.bencode_values.specs.Grammar.{spelled, spelled_int, spelled_bytes, spelled_pair, is_in_range, is_string, Fits}
+use Rattle.bencode_values.specs.Grammar.{spelled, is_in_range, is_string, Fits}
 use Rattle.bencode_values.proofs.Values.{spelled-Int, spelled-Bytes, spelled-List, spelled-Dict, spelled_pair-record, fits-Int, fits-Bytes, fits-List, fits-Dict, fits-pair}
 use Rattle.packet_frames.specs.Written.{MayBeWritten, ChunkFits, IsWithin, ChunkIsWithin}
 use Rattle.window_model.specs.Desktop.{IsSide, IsPlace}
 use Rattle.packet_kinds.specs.declared.to_client.ToClient.{ToClient}
 use Rattle.packet_kinds.specs.declared.to_client.ToClient.TheVariants as T
 use Rattle.packet_kinds.specs.Items.{number, text, no_pairs, options, coding_name, format_name}
-use Rattle.packet_kinds.specs.Fields.{HasFields, IsPlain, IsNumber, IsSpan, IsStride, drawn_size}
+use Rattle.packet_kinds.specs.Fields.{HasFields, IsPlain, IsNumber, IsSpan, drawn_size}
 use Rattle.packet_kinds.specs.ToClients.{to_items, to_value, to_chunk}
 use Rattle.packet_kinds.proofs.ToWritten.{draw_fits}
 

@@ -11,7 +11,6 @@ use Rattle.packet_frames.proofs.Writing.{written_follows, part_adds_none}
 use Rattle.packet_kinds.specs.declared.fault.TalkFault.TheVariants as F
 use Rattle.packet_kinds.specs.declared.from_client.FromClient.{FromClient}
 use Rattle.packet_kinds.specs.FromShapes.{from_client}
-use Rattle.packet_kinds.specs.FromWritten.{IsClientMessage}
 use Rattle.packet_kinds.specs.Talk.{Said, TalkStop, Talk, Heard, stop_of, heard_or_shape, heard, talk_of, talk, said_or_shape, more_said, Continues, PacketIsHeard, FaultIsHeard, ShapeStays, MessageIsHeard, PartIsUnheard}
 
 -- messages, and then more
@@ -93,7 +92,7 @@ talk-append : (limit : ℕ) (bytes more : List ℕ) → talk limit (bytes ++ mor
 unfolding talk
 talk-append limit bytes more = ap talk_in (read_on-append limit (from_place 0) bytes more)
 
-talk-is : (limit : ℕ) (bytes : List ℕ) → talk limit bytes ≡ talk_in (packets_of limit bytes)
+pub talk-is : (limit : ℕ) (bytes : List ℕ) → talk limit bytes ≡ talk_in (packets_of limit bytes)
 unfolding talk
 talk-is limit bytes = refl
 

@@ -1,7 +1,7 @@
 -- What is written of the server's packets is read as the same packet.
-use Rattle.std.proofs.Common.{◌≡◌, ◌≢◌, ℕ, ◌<◌, ◌≤◌, ◌^◌, true, List, [], ◌∷◌, length, refl, sym, ap, ◌∙◌, arith}
+use Rattle.std.proofs.Common.{◌≡◌, ◌≢◌, ℕ, List, [], ◌∷◌, refl, ap, ◌∙◌}
 use Rattle.std.specs.Option.{option_and_then}
-use Rattle.std.specs.Prelude.{ℤ, Option, Some, None, Result, Ok, codes, slice_get}
+use Rattle.std.specs.Prelude.{ℤ, Option, Some, None, Ok, codes, slice_get}
 use Rattle.xp_base.specs.declared.coding.Coding.{Coding}
 use Rattle.xp_base.specs.declared.coding.Coding.TheVariants.{Exact, Lossy}
 use Rattle.bencode_values.specs.declared.value.Value.{Value}
@@ -11,7 +11,7 @@ use Rattle.packet_frames.specs.Framing.{put_in}
 use Rattle.packet_frames.proofs.Layers.{put_in-fit, empty_is}
 use Rattle.packet_kinds.specs.declared.to_client.ToClient.{ToClient}
 use Rattle.packet_kinds.specs.declared.to_client.ToClient.TheVariants as T
-use Rattle.packet_kinds.specs.Items.{need, number, text, options, coding_name, coding_of, coding_at, no_pairs, wid_at, bytes_at}
+use Rattle.packet_kinds.specs.Items.{need, number, text, options, coding_name, coding_of, coding_at, bytes_at}
 use Rattle.packet_kinds.specs.Fields.{HasFields}
 use Rattle.packet_kinds.specs.ToClients.{to_items, to_value, to_chunk}
 use Rattle.packet_kinds.specs.ToShapes.{to_client, to_client_named}

@@ -1,5 +1,5 @@
 -- What the server's packets do to the windows that a client shows, from bottom to top.
-use Rattle.std.specs.Prelude.{ℕ, ◌*◌, ◌/◌, ◌%◌, ◌==◌, Bool, false, not, ◌&&◌, nat_le, nat_eq, ℤ, if◌then◌else◌, Option, Some, None, List, [], ◌∷◌, ◌++◌, length, map, filter, slice_index}
+use Rattle.std.specs.Prelude.{ℕ, ◌*◌, ◌/◌, ◌%◌, ◌==◌, Bool, false, not, ◌&&◌, nat_le, nat_eq, ℤ, if◌then◌else◌, Option, Some, None, List, [], ◌∷◌, ◌++◌, length, filter, slice_index}
 use Rattle.xp_base.specs.Points.{Rectangle}
 use Rattle.xp_base.specs.Grid.{place_of}
 use Rattle.xp_base.specs.declared.coding.Coding.{Coding}

@@ -1,6 +1,6 @@
 -- What the fields of the server's packets are, where a client reads one: each number in its range. The ranges are this
 -- project's own.
-use Rattle.std.specs.Prelude.{ℕ, ℤ, ◌≡◌, ◌≤◌, ◌+◌, true, List, length}
+use Rattle.std.specs.Prelude.{ℕ, ℤ, ◌≡◌, ◌≤◌, ◌+◌, true, length}
 use Rattle.window_model.specs.Desktop.{IsSide, IsPlace}
 use Rattle.bencode_values.specs.Grammar.{is_in_range}
 use Rattle.packet_kinds.specs.declared.to_client.ToClient.{ToClient}

@@ -1,6 +1,6 @@
 -- What a value says as a packet of a client, or the first item that is missing or is no integer. Items past those that
 -- are named are kept where they are open, and else ignored.
-use Rattle.std.specs.Prelude.{ℕ, bytes_eq, codes, if◌then◌else◌, Result, Ok, Err, List, [], ◌∷◌, drop, slice_get}
+use Rattle.std.specs.Prelude.{ℕ, bytes_eq, codes, if◌then◌else◌, Result, Ok, List, drop, slice_get}
 use Rattle.bencode_values.specs.declared.value.Value.{Value}
 use Rattle.packet_kinds.specs.declared.from_client.FromClient.{FromClient}
 use Rattle.packet_kinds.specs.declared.from_client.FromClient.TheVariants as C

@@ -1,5 +1,5 @@
 -- Items of a packet: what each must be, and how it is written.
-use Rattle.std.specs.Prelude.{ℕ, ◌+◌, ◌≤◌, ℤ, pos, negsuc, Bool, ◌&&◌, nat_le, bytes_eq, codes, if◌then◌else◌, Option, Some, None, Result, Ok, Err, List, [], ◌∷◌, slice_get}
+use Rattle.std.specs.Prelude.{ℕ, ◌+◌, ℤ, pos, negsuc, ◌&&◌, nat_le, bytes_eq, codes, if◌then◌else◌, Option, Some, None, Result, Err, List, [], ◌∷◌, slice_get}
 use Rattle.std.specs.Option.{option_and_then}
 use Rattle.xp_base.specs.declared.coding.Coding.{Coding}
 use Rattle.xp_base.specs.declared.coding.Coding.TheVariants.{Exact, Lossy}

@@ -2,7 +2,7 @@
 use Rattle.std.specs.Prelude.{ℕ, Option, Some, None, Result, Ok, Err, List, [], ◌∷◌}
 use Rattle.window_model.specs.Desktop.{Window}
 use Rattle.packet_frames.specs.declared.fault.FrameFault.{FrameFault}
-use Rattle.packet_frames.specs.Stream.{Packet, Fault, Stream, packets_of}
+use Rattle.packet_frames.specs.Stream.{Packet, Fault, packets_of}
 use Rattle.packet_kinds.specs.declared.to_client.ToClient.{ToClient}
 use Rattle.packet_kinds.specs.ToShapes.{to_client}
 use Rattle.packet_kinds.specs.Effects.{effect}

@@ -1,7 +1,7 @@
 -- What a client has said, read from the bytes that it gave. Its first packet is kept as it is: it is read as a hello and by
 -- nothing else. The later ones are messages, up to the first fault.
 use Rattle.std.specs.Prelude.{ℕ, ◌≡◌, ◌≢◌, Option, Some, None, Result, Ok, Err, List, [], ◌∷◌, ◌++◌}
-use Rattle.packet_frames.specs.Stream.{Packet, Fault, Stream, packets_of}
+use Rattle.packet_frames.specs.Stream.{Packet, Fault, packets_of}
 use Rattle.packet_frames.specs.Written.{IsClean}
 use Rattle.packet_kinds.specs.declared.fault.TalkFault.{TalkFault}
 use Rattle.packet_kinds.specs.declared.fault.TalkFault.TheVariants as F

@@ -1,5 +1,5 @@
 -- The server's packets as values: the name and then the items in their order. The items are this project's own.
-use Rattle.std.specs.Prelude.{ℕ, codes, Option, Some, None, List, [], ◌∷◌}
+use Rattle.std.specs.Prelude.{codes, Option, Some, None, List, [], ◌∷◌}
 use Rattle.bencode_values.specs.declared.value.Value.{Value}
 use Rattle.bencode_values.specs.declared.value.Value.TheVariants as V
 use Rattle.packet_frames.specs.Written.{Carried}

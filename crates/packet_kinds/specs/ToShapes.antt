@@ -1,6 +1,6 @@
 -- What a value says as a packet of the server, or the first item that is missing or does not fit. Items past those
 -- that are named are ignored.
-use Rattle.std.specs.Prelude.{ℕ, bytes_eq, codes, if◌then◌else◌, Option, Some, None, Result, Ok, Err, List, [], ◌∷◌, slice_get}
+use Rattle.std.specs.Prelude.{ℕ, bytes_eq, codes, if◌then◌else◌, Result, Ok, List, slice_get}
 use Rattle.bencode_values.specs.declared.value.Value.{Value}
 use Rattle.packet_kinds.specs.declared.to_client.ToClient.{ToClient}
 use Rattle.packet_kinds.specs.declared.to_client.ToClient.TheVariants as T

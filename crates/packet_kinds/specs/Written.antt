@@ -1,5 +1,5 @@
 -- Messages as bytes.
-use Rattle.std.specs.Prelude.{ℕ, ◌≡◌, ◌≢◌, Option, Some, None, Ok, List, [], ◌++◌}
+use Rattle.std.specs.Prelude.{ℕ, ◌≡◌, Option, Some, None, Ok, List}
 use Rattle.bencode_values.specs.declared.value.Value.{Value}
 use Rattle.window_model.specs.Desktop.{Window}
 use Rattle.packet_frames.specs.Stream.{packets_of}

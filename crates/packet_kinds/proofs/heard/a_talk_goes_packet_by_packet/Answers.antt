@@ -1,5 +1,8 @@
-use Rattle.packet_kinds.proofs.Talks.{packet_is_heard, fault_is_heard, shape_stays}
+use Rattle.packet_kinds.proofs.Talks.{talk-is, packet_is_heard, fault_is_heard, shape_stays}
 use Rattle.packet_kinds.proofs.heard.a_talk_goes_packet_by_packet.Goals as goal
+
+pub returns-clause-whole : goal.returns-clause-whole
+returns-clause-whole c = talk-is
 
 pub returns-clause-packet : goal.returns-clause-packet
 returns-clause-packet c = packet_is_heard
