@@ -2,7 +2,7 @@
 use Rattle.std.proofs.Common.{◌≡◌, inl, inr, ℕ, ◌+◌, ◌*◌, ◌<◌, ◌≤◌, true, false, Option, Some, List, ◌++◌, length, drop, ap, ◌∙◌, sym, subst, arith}
 use Rattle.std.proofs.lemmas.List.{length-append, append_cancel_left}
 use Rattle.std.specs.List.{concat}
-use Rattle.std.specs.Prelude.{replicate}
+use Rattle.std.specs.Prelude.{replicate, Result, Ok, Err, OnErr}
 use Rattle.window_model.specs.Desktop.{Window}
 use Rattle.paint_script.specs.declared.paint.Paint.{Paint}
 use Rattle.session_core.specs.declared.geometry.Geometry.{Geometry}
@@ -77,3 +77,8 @@ maps_heard lines g c bytes rest count c' is repeats small after = (
   small,
   after ∙ ap (λ (o : Option Geometry). after_maps o count rest c) (sym is),
 )
+
+-- what follows from what stands after an error stands after it, too
+pub err_then : {A E : Type 0} (r : Result A E) {P Q : Type 0} → (P → Q) → OnErr r P → OnErr r Q
+err_then (Ok a) f on = on
+err_then (Err e) f on = f on

@@ -10,3 +10,12 @@ pub mod Lives
 pub mod Writings
 pub mod Taking
 pub mod Lessening
+pub mod Alike
+pub mod Deliveries
+pub mod Sources
+pub mod Waitings
+pub mod Carried
+pub mod Tellings
+pub mod Attachings
+pub mod Steadies
+pub mod Shown

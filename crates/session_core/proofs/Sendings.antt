@@ -1,5 +1,5 @@
 -- What waits to be written, as packets are put at its end and bytes of the first are taken.
-use Rattle.std.proofs.Common.{◌≡◌, ◌≢◌, ℕ, zero, suc, ◌+◌, ◌-◌, ◌<◌, ◌≤◌, Bool, true, false, List, [], ◌∷◌, ◌++◌, length, drop, refl, ap, ◌∙◌, sym, arith, map}
+use Rattle.std.proofs.Common.{◌≡◌, ◌≢◌, ℕ, zero, suc, ◌+◌, ◌-◌, ◌<◌, ◌≤◌, Bool, true, false, Option, Some, None, List, [], ◌∷◌, ◌++◌, length, drop, refl, ap, ◌∙◌, sym, arith, map}
 use Rattle.std.specs.Prelude.{All}
 use Rattle.std.proofs.Math.Seq.{drop-nil}
 use Rattle.std.proofs.lemmas.Bool.Decides.{nat_tests}
@@ -7,6 +7,8 @@ use Rattle.session_core.specs.declared.packet.Packet.{Packet}
 use Rattle.session_core.specs.declared.source.Source.{Source}
 use Rattle.window_model.specs.Desktop.{Window}
 use Rattle.session_core.specs.declared.geometry.Geometry.{Geometry}
+use Rattle.bencode_values.specs.declared.value.Value.{Value}
+use Rattle.packet_frames.specs.Written.{Carried, packet_bytes}
 use Rattle.session_core.specs.Wire.{server_hello, new_window, geometry_of, draw}
 use Rattle.session_core.specs.Clients.{structure_packet, ClientSeen, IsTaken, IsClient, front_size, size_of, waiting, taken_more, front_rest}
 
@@ -58,8 +60,14 @@ client_drawn {greeted = true} sources' packets' p place middle client within sam
 client_drawn {greeted = false} sources' packets' p place middle client within same is some =
     let none = ap length (client.unattached refl) in absurd (omega (arith, within, none))
 
+-- no packet is empty
+packet_some : (v : Value) (chunk : Option Carried) → 0 < length (packet_bytes v chunk)
+unfolding packet_bytes
+packet_some v None = omega arith
+packet_some v (Some c) = omega arith
+
 pub draw_some : (window : Window) (n : ℕ) → 0 < length (draw window n)
-draw_some window n = omega arith
+draw_some window n = packet_some _ _
 
 -- the first packet is gone
 pub client_next : {greeted : Bool} {maps : ℕ} {sources : List Source} {packets : List Packet} {taken : ℕ} (packets' : List Packet)
@@ -73,7 +81,7 @@ client_next {packets = packets} packets' client is = rw is (record {
 })
 
 pub new_window_some : (g : Geometry) → 0 < length (new_window g)
-new_window_some g = omega arith
+new_window_some g = packet_some _ _
 
 pub announced_some : (desk : List Window) → All (λ q. 0 < length q.bytes) (map (λ w. structure_packet (new_window (geometry_of w))) desk)
 announced_some [] k d within = absurd (omega (arith, within))
@@ -84,7 +92,7 @@ announced_some (w ∷ desk) (suc k) d within = announced_some desk k d (omega (a
 pub client_attached : {greeted : Bool} {maps : ℕ} {sources : List Source} {packets : List Packet} {taken : ℕ} (desk : List Window) (sources' : List Source) (packets' : List Packet)
     → IsClient greeted maps sources packets taken → packets' ≡ structure_packet server_hello ∷ map (λ w. structure_packet (new_window (geometry_of w))) desk → IsClient true maps sources' packets' 0
 client_attached desk sources' packets' client is = rw is (record {
-  part = omega arith;
+  part = packet_some _ _;
   filled = first;
   counted = client.counted;
   unattached = λ none. absurd (cc none);
@@ -92,7 +100,7 @@ client_attached desk sources' packets' client is = rw is (record {
 })
   where
     first : All (λ q. 0 < length q.bytes) (structure_packet server_hello ∷ map (λ w. structure_packet (new_window (geometry_of w))) desk)
-    first zero d within = omega arith
+    first zero d within = packet_some _ _
     first (suc k) d within = announced_some desk k d (omega (arith, within))
 
 drop_more : (a n : ℕ) (bytes : List ℕ) → drop (a + n) bytes ≡ drop n (drop a bytes)

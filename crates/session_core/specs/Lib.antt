@@ -1,12 +1,16 @@
 pub mod PointSets
 pub mod Wire
 pub mod Clients
+pub mod Delivery
 pub mod Hearing
 pub mod Reading
 pub mod Sending
 pub mod Capturing
 pub mod State
+pub mod Told
+pub mod Steady
 pub mod Ends
 pub mod Steps
 pub mod Laws
 pub mod Owed
+pub mod Shown

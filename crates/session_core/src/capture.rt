@@ -7,11 +7,11 @@ ghost use Rattle.session_core.specs.Capturing.{CapturesSlot};
 
 use crate::answers::Captured;
 use crate::client::{Client, source_place};
+use crate::messages::draw_packet;
 use crate::packet::{Draw, Packet};
 use crate::points::Points;
 use crate::receive::is_open;
 use crate::state::Session;
-use crate::wire::draw_packet;
 use link_bay::Bay;
 use std::alloc::Global;
 use std::mem;
@@ -36,6 +36,7 @@ impl<B: Bay + Drop> Session<B> {
         if !is_open(&self.clients, k) {
             return Captured::Closed;
         }
+        let _count = self.desk.len();
         let Some(window) = self.desk.find(wid) else {
             return Captured::Closed;
         };

@@ -1,6 +1,6 @@
 // What a client says: an exact client's hello, and then maps of the script's window. All else is not
 // built yet.
-ghost use Rattle.std.specs.Prelude.{◌≡◌, ◌≤◌, ◌<◌, ◌*◌, ◌++◌, ◌∷◌, ℕ, List, OnOk, Err, None, IfOk, IfSome, length, drop, map, nat_lt, if◌then◌else◌};
+ghost use Rattle.std.specs.Prelude.{◌≡◌, ◌≤◌, ◌<◌, ◌*◌, ◌++◌, ◌∷◌, ℕ, List, OnOk, OnErr, Err, None, IfOk, IfSome, length, drop, map, nat_lt, if◌then◌else◌};
 ghost use Rattle.std.specs.Option.{option_map};
 ghost use Rattle.session_core.specs.Clients.{ClientSeen, plain, fresh_source, structure_packet, mapped_source};
 ghost use Rattle.session_core.specs.Hearing.{script_window as opened_window, IsPartOf, IsNeither, Repeats};
@@ -9,10 +9,11 @@ ghost use Rattle.session_core.specs.Wire.{server_hello, geometry_of, new_window}
 use crate::client::Client;
 use crate::ends::Trouble;
 use crate::geometry::Geometry;
+use crate::messages::server_hello_packet;
 use crate::opening::make_announcement;
 use crate::packet::Packet;
 use crate::source::Source;
-use crate::wire::{map_window_packet, server_hello_packet};
+use crate::wire::map_window_packet;
 use link_bay::EXACT_HELLO;
 use paint_script::Paint;
 use std::alloc::Global;
@@ -86,7 +87,7 @@ fn script_window(paints: &[Paint]) -> Option<Geometry>
 
 impl Client {
     ghost use Rattle.session_core.specs.Clients.{attached};
-    ghost use Rattle.session_core.specs.Hearing.{Hears, HearsMaps, IsUnbuilt};
+    ghost use Rattle.session_core.specs.Hearing.{Hears, HearsMaps, HearsNoMore, IsUnbuilt};
 
     /// Takes what the client said, and handles each packet that is whole.
     #[tactic(auto, using(crate::proofs::Heard::hears_on, crate::proofs::Heard::unhears_on, crate::proofs::Heard::hears_first, crate::proofs::Heard::unhears_first, crate::proofs::Heard::unhears_neither))]
@@ -99,6 +100,7 @@ impl Client {
     ) -> Result<(), Trouble>
         ensures ok { OnOk result (Hears paints.now desk.now (plain self.old) bytes.now (plain self.new)) }
         ensures unbuilt { result ≡ Err Trouble.Unbuilt → IsUnbuilt paints.now desk.now (plain self.old) bytes.now }
+        ensures left { OnErr result (HearsNoMore desk.now (plain self.old) (plain self.new)) }
     {
         let Ok(()) = self.unread.extend_from_slice(bytes) else {
             return Err(Trouble::NoMemory);
@@ -120,7 +122,8 @@ impl Client {
     /// The hello was accepted: the server's hello and each window from bottom to top wait to be written.
     fn attach(&mut self, alloc: Global, desk: &Desk) -> Result<(), NoMemory>
         requires { 39 ≤ length self.old.unread }
-        ensures { OnOk result (plain self.new ≡ record (attached desk.now (plain self.old)) { unread = drop 39 self.old.unread }) }
+        ensures ok { OnOk result (plain self.new ≡ record (attached desk.now (plain self.old)) { unread = drop 39 self.old.unread }) }
+        ensures err { OnErr result (plain self.new ≡ plain self.old) }
     {
         let (sources, packets) = announce_desk(alloc, desk)?;
         self.unread.drain(..EXACT_HELLO.len());
@@ -135,6 +138,7 @@ impl Client {
     fn hear_maps(&mut self, alloc: Global, paints: &[Paint]) -> Result<(), Trouble>
         ensures ok { OnOk result (HearsMaps paints.now (plain self.old) self.old.unread (plain self.new)) }
         ensures unbuilt { result ≡ Err Trouble.Unbuilt → (c : ClientSeen) → HearsMaps paints.now (plain self.old) self.old.unread c → ⊥ }
+        ensures err { OnErr result (plain self.new ≡ plain self.old) }
     {
         let Some(geometry) = script_window(paints) else {
             return if self.unread.is_empty() {

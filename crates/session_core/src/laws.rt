@@ -1,5 +1,10 @@
 // What the definitions come to, as facts that a proof gets by a call: each call does nothing.
+ghost use Rattle.std.specs.Prelude.{◌≡◌, true, List, ℕ};
+ghost use Rattle.window_model.specs.Desktop.{Window, IsDesktop};
+ghost use Rattle.session_core.specs.Clients.{ClientSeen};
 ghost use Rattle.session_core.specs.Laws.{RectangleMarked, WholeMarked, TakenGone};
+ghost use Rattle.session_core.specs.Shown.{OwesWhatDiffers, WillShowTheDesktop, WindowsAreSteady};
+ghost use Rattle.session_core.specs.Told.{IsTold};
 
 /// After a rectangle was added a point is in the set where it was, or where it lies in the rectangle and
 /// in the window.
@@ -15,4 +20,21 @@ pub fn whole_marked()
 /// Bytes of the first packet that were taken are gone: what is left to write is what was, without them.
 pub fn taken_gone()
     ensures { TakenGone }
+{}
+
+/// What every session keeps of a client whose hello was accepted: each pixel in which the client's picture,
+/// read from the bytes sent to it, differs from the desktop is owed.
+pub fn each_difference_is_owed()
+    ensures { (desk : List Window) (c : ClientSeen) (sent : List ℕ) → IsDesktop desk → IsTold desk c sent → c.greeted ≡ true → OwesWhatDiffers desk c sent }
+{}
+
+/// Once the bytes that wait are sent the client shows the desktop's windows, in its order, with its places and sizes.
+pub fn what_waits_lays_out_the_desktop()
+    ensures { (desk : List Window) (c : ClientSeen) (sent : List ℕ) → IsTold desk c sent → c.greeted ≡ true → WillShowTheDesktop desk c sent }
+{}
+
+/// Of each window: the newest waiting draws that cover a point that is not pending are current, and nothing is
+/// owed only in front of the window's announcement.
+pub fn waiting_draws_are_current()
+    ensures { (desk : List Window) (c : ClientSeen) (sent : List ℕ) → (told : IsTold desk c sent) → c.greeted ≡ true → WindowsAreSteady desk c sent told }
 {}

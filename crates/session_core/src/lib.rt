@@ -10,6 +10,7 @@ mod ends;
 mod geometry;
 mod hearing;
 mod laws;
+pub mod messages;
 mod opening;
 mod owed;
 mod packet;
@@ -30,7 +31,10 @@ pub use answers::{Accepted, Captured, Painted, Received, Sent};
 pub use client::Client;
 pub use ends::End;
 pub use geometry::Geometry;
-pub use laws::{rectangle_marked, taken_gone, whole_marked};
+pub use laws::{
+    each_difference_is_owed, rectangle_marked, taken_gone, waiting_draws_are_current,
+    what_waits_lays_out_the_desktop, whole_marked,
+};
 pub use packet::{Announcement, Draw, Packet};
 pub use points::Points;
 pub use settle::{Calm, How};

@@ -6,10 +6,10 @@ ghost use Rattle.session_core.specs.Clients.{plain, plain_clients, announced, an
 
 use crate::client::Client;
 use crate::geometry::Geometry;
+use crate::messages::new_window_packet;
 use crate::packet::{Announcement, Packet};
 use crate::points::Points;
 use crate::source::Source;
-use crate::wire::new_window_packet;
 use std::alloc::Global;
 use window_model::Desk;
 use xp_base::{Bytes, NoMemory};
@@ -43,6 +43,8 @@ fn prepare_all(
     clients: &mut Vec<Option<Client>>,
     geometry: &Geometry,
 ) -> Result<(), NoMemory>
+    requires across { IsPlace geometry.now.x }
+    requires down { IsPlace geometry.now.y }
     requires wide { IsSide geometry.now.w }
     requires high { IsSide geometry.now.h }
     ensures same { plain_clients clients.new.items ≡ plain_clients clients.old.items }
@@ -60,6 +62,8 @@ fn prepare_slot(
     slot: &mut Option<Client>,
     geometry: &Geometry,
 ) -> Result<(), NoMemory>
+    requires across { IsPlace geometry.now.x }
+    requires down { IsPlace geometry.now.y }
     requires wide { IsSide geometry.now.w }
     requires high { IsSide geometry.now.h }
     ensures same { option_map plain slot.new ≡ option_map plain slot.old }
@@ -94,6 +98,8 @@ pub(crate) fn make_announcement(
     alloc: Global,
     geometry: &Geometry,
 ) -> Result<Announcement, NoMemory>
+    requires across { IsPlace geometry.now.x }
+    requires down { IsPlace geometry.now.y }
     requires wide { IsSide geometry.now.w }
     requires high { IsSide geometry.now.h }
     ensures { IfOk result (λ made. made ≡ announcement geometry.now) }
@@ -117,6 +123,8 @@ pub(crate) fn make_announcement(
 impl Client {
     /// Prepares the window, where the hello was accepted.
     fn prepare(&mut self, alloc: Global, geometry: &Geometry) -> Result<(), NoMemory>
+        requires across { IsPlace geometry.now.x }
+        requires down { IsPlace geometry.now.y }
         requires wide { IsSide geometry.now.w }
         requires high { IsSide geometry.now.h }
         ensures same { plain self.new ≡ plain self.old }

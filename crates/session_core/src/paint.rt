@@ -29,6 +29,7 @@ impl<B: Bay + Drop> Session<B> {
     {
         desk_at_next();
         let _count = self.paints.len();
+        let _windows = self.desk.len();
         let Some(line) = self.paints.line(self.place) else {
             return Painted::Finished;
         };

@@ -1,10 +1,10 @@
 // Reads.
-ghost use Rattle.std.specs.Prelude.{◌≡◌, ◌≤◌, ◌<◌, ◌↔◌, ℕ, false, IsTrue, IsSome, IsNone, IfSome, OnOk, Err, length};
+ghost use Rattle.std.specs.Prelude.{◌≡◌, ◌≤◌, ◌<◌, ◌↔◌, ℕ, false, IsTrue, IsSome, IsNone, IfSome, OnOk, OnErr, Err, length};
 ghost use Rattle.std.specs.Option.{option_map, is_some};
 ghost use Rattle.link_bay.specs.Connections.{OthersStay, AllStay};
 ghost use Rattle.session_core.specs.State.{open_client, is_unended};
 ghost use Rattle.session_core.specs.Clients.{plain};
-ghost use Rattle.session_core.specs.Hearing.{HearsSlot, IsUnbuilt};
+ghost use Rattle.session_core.specs.Hearing.{HearsSlot, HearsNoMoreSlot, IsUnbuilt};
 
 use crate::answers::Received;
 use crate::client::Client;
@@ -37,6 +37,7 @@ impl<B: Bay + Drop> Session<B> {
         if !is_open(&self.clients, k) {
             return Received::Closed;
         }
+        let _count = self.desk.len();
         let mut bytes = Vec::new(self.alloc);
         match self.bay.read(c, &mut bytes, READ_LIMIT) {
             Gave::Bytes(count) => {
@@ -117,6 +118,7 @@ fn hear_slot(
     ensures kept { is_some slot.new ≡ is_some slot.old }
     ensures ok { OnOk result (HearsSlot paints.now desk.now (option_map plain slot.old) bytes.now (option_map plain slot.new)) }
     ensures unbuilt { result ≡ Err Trouble.Unbuilt → IfSome (option_map plain slot.old) (λ c. IsUnbuilt paints.now desk.now c bytes.now) }
+    ensures left { OnErr result (HearsNoMoreSlot desk.now (option_map plain slot.old) (option_map plain slot.new)) }
 {
     match slot {
         Some(client) => client.hear(alloc, bytes, paints, desk),

@@ -1,5 +1,5 @@
 // Writes.
-ghost use Rattle.std.specs.Prelude.{◌≡◌, ◌≤◌, ◌<◌, ◌+◌, ◌↔◌, length, IfOk, IfErr, IfSome, false};
+ghost use Rattle.std.specs.Prelude.{◌≡◌, ◌≤◌, ◌<◌, ◌+◌, ◌↔◌, length, IfOk, IfErr, OnErr, IfSome, false};
 ghost use Rattle.std.specs.Option.{option_map, is_some};
 ghost use Rattle.link_bay.specs.Connections.{OthersStay};
 ghost use Rattle.session_core.specs.Clients.{plain};
@@ -58,6 +58,7 @@ fn send_slot<B: Bay + Drop>(
     ensures kept { is_some slot.new ≡ is_some slot.old }
     ensures ok { IfOk result (λ answer. WritesSlot max (B.connection bay.old c.0) (B.connection bay.new c.0) (option_map plain slot.old) answer (option_map plain slot.new)) }
     ensures failed { IfErr result (λ broken. FailsSlot max (B.connection bay.old c.0) (B.connection bay.new c.0) (option_map plain slot.old)) }
+    ensures same { OnErr result (option_map plain slot.new ≡ option_map plain slot.old) }
     ensures others { OthersStay (B.connection bay.old) (B.connection bay.new) c.0 }
     ensures provider { B.provider bay.new ≡ B.provider bay.old }
 {
@@ -76,6 +77,7 @@ impl Client {
         requires known { c.0 < (B.provider bay.old).count }
         ensures ok { IfOk result (λ answer. Writes max (B.connection bay.old c.0) (B.connection bay.new c.0) (plain self.old) answer (plain self.new)) }
         ensures failed { IfErr result (λ broken. Fails max (B.connection bay.old c.0) (B.connection bay.new c.0) (plain self.old)) }
+        ensures same { OnErr result (plain self.new ≡ plain self.old) }
         ensures others { OthersStay (B.connection bay.old) (B.connection bay.new) c.0 }
         ensures provider { B.provider bay.new ≡ B.provider bay.old }
     {

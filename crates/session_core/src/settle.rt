@@ -1,5 +1,5 @@
 // What brings every connection to the last windows.
-ghost use Rattle.std.specs.Prelude.{◌≡◌, ◌≤◌, true, length};
+ghost use Rattle.std.specs.Prelude.{◌≡◌, ◌≢◌, ◌≤◌, true, length};
 ghost use Rattle.xp_base.specs.Counts.{Rose};
 
 use crate::ends::End;
@@ -37,7 +37,7 @@ impl<B: Bay + Drop> Session<B> {
         ensures counted { length result.ends.items ≡ (B.provider result.bay).count }
         ensures ends { KeepsEnds self.ends result.ends.items }
         ensures ended { result.how ≡ How.Settled → AllEnded result.ends.items }
-        ensures short { result.how ≡ How.Settled → NoMoreShort self.ends result.ends.items }
+        ensures short { result.how ≢ How.NoMemory → NoMoreShort self.ends result.ends.items }
         ensures fault { result.how ≡ How.BayFault → Rose (B.provider self.bay).faults (B.provider result.bay).faults }
         ensures settled { result.how ≡ How.Settled → Rose (B.provider self.bay).lulls (B.provider result.bay).lulls }
         ensures served { result.how ≡ How.Settled → B.tells ≡ true → (B.provider result.bay).room ≡ 0 }
@@ -66,7 +66,7 @@ impl<B: Bay + Drop> Session<B> {
         ensures windows { KeepsWindows self.old self.new }
         ensures ends { KeepsEnds self.old.ends self.new.ends }
         ensures ended { result ≡ How.Settled → AllEnded self.new.ends }
-        ensures short { result ≡ How.Settled → NoMoreShort self.old.ends self.new.ends }
+        ensures short { result ≢ How.NoMemory → NoMoreShort self.old.ends self.new.ends }
         ensures fault { result ≡ How.BayFault → Rose (B.provider self.old.bay).faults (B.provider self.new.bay).faults }
         ensures settled { result ≡ How.Settled → Rose (B.provider self.old.bay).lulls (B.provider self.new.bay).lulls }
         ensures served { result ≡ How.Settled → B.tells ≡ true → (B.provider self.new.bay).room ≡ 0 }

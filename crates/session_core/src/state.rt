@@ -30,7 +30,8 @@ pub struct Session<B: Bay + Drop> {
 impl<B: Bay + Drop> Model for Session<B> {
     ghost use Rattle.std.specs.Prelude.{◌≡◌};
     ghost use Rattle.session_core.specs.Clients.{plain_clients};
-    ghost use Rattle.session_core.specs.State.{Seen, IsSession};
+    ghost use Rattle.session_core.specs.State.{Seen};
+    ghost use Rattle.session_core.specs.Steady.{IsSteady};
 
     ghost Value = { Seen B };
 
@@ -43,11 +44,12 @@ impl<B: Bay + Drop> Model for Session<B> {
       bay = s.bay;
     } };
 
-    ghost invariant = { λ s. IsSession s.paints s.place s.desk s.clients.items s.ends.items (B.provider s.bay).count };
+    ghost invariant = { λ s. IsSteady (B.connection s.bay) s.paints s.place s.desk s.clients.items s.ends.items (B.provider s.bay).count };
 }
 
 impl<B: Bay + Drop> Session<B> {
     ghost use Rattle.session_core.specs.State.{Seen, IsSession};
+    ghost use Rattle.session_core.specs.Told.{AreTold};
     ghost use Rattle.std.specs.Prelude.{MatchResult};
 
     /// A session before its first paint line. `Err` is want of memory, and hands the provider back.
@@ -81,6 +83,7 @@ impl<B: Bay + Drop> Session<B> {
     pub fn is_painted(&self) -> bool
         ensures value { IsTrue result ↔ (length self.now.lines ≤ self.now.place) }
         ensures kept { IsSession self.now.lines self.now.place self.now.desk self.now.clients self.now.ends (B.provider self.now.bay).count }
+        ensures told { AreTold (B.connection self.now.bay) self.now.desk self.now.clients }
     {
         self.place >= self.paints.len()
     }

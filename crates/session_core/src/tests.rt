@@ -1,5 +1,5 @@
 use super::*;
-use crate::wire::draw_packet;
+use crate::messages::draw_packet;
 use link_bay::{Kind, Name, OneBay, Order};
 use paint_script::{Paints, ScriptRead, read_script};
 use std::alloc::Global;

@@ -7,15 +7,33 @@ use Rattle.session_core.specs.declared.ends.Trouble.{Trouble}
 use Rattle.session_core.specs.declared.answers.Received.TheVariants as R
 use Rattle.session_core.specs.Clients.{ClientSeen, plain_clients}
 use Rattle.session_core.specs.State.{open_client}
+use Rattle.link_bay.specs.Connections.{ConnectionRecord}
 use Rattle.session_core.proofs.Lives.{session_slot, clients_gone}
+use Rattle.session_core.proofs.Steadies.{told_slot, told_here, same_sent, slot_heard, slot_no_more}
 use Rattle.session_core.proofs.Writings.{receives_took, receives_again, receives_ended, slot_some, open_some, why_unbuilt, why_end, why_failed, why_short}
 use Rattle.session_core.proofs.state.Session.receive.Goals as goal
 
 pub invariant_of-self : goal.invariant_of-self
-invariant_of-self g c = session_slot c.args.c.0 c.index_mut-slot.result.now c.hear_slot-heard.new.slot _ c.self.invariant c.index_mut-slot.ensures.value c.hear_slot-heard.ensures.kept (ap (λ p. p.count) c.read.ensures.provider)
+invariant_of-self g c =
+    let within : c.args.c.0 < length c.self.inside.clients.items = grind (arith, c.if-not-is_open.ensures.within refl, ap length c.deref.ensures.value) in
+    let was = told_here (g.B.Bay.connection c.self.inside.bay) c.self.inside.desk c.self.inside.clients.items c.args.c.0 c.index_mut-slot.result.now c.self.invariant.told within c.index_mut-slot.ensures.value in
+    let same = same_sent c.self.inside.desk c.index_mut-slot.result.now _ _ (ap (λ (r : ConnectionRecord). r.sent) c.in-Bytes.ensures.answer.5) was in
+    record {
+      session = session_slot c.args.c.0 c.index_mut-slot.result.now c.hear_slot-heard.new.slot _ c.self.invariant.session c.index_mut-slot.ensures.value c.hear_slot-heard.ensures.kept (ap (λ p. p.count) c.read.ensures.provider);
+      told = told_slot _ _ c.self.inside.desk c.self.inside.clients.items c.args.c.0 c.hear_slot-heard.new.slot c.self.invariant.told c.read.ensures.others within
+          (slot_heard _ c.self.inside.desk _ _ c.index_mut-slot.result.now c.hear_slot-heard.new.slot c.len-count.ensures.kept c.in-Ok.ensures.ok same);
+    }
 
 pub invariant_of-self-in-Unbuilt : goal.invariant_of-self-in-Unbuilt
-invariant_of-self-in-Unbuilt g c = session_slot c.args.c.0 c.index_mut-slot.result.now c.hear_slot-heard.new.slot _ c.self.invariant c.index_mut-slot.ensures.value c.hear_slot-heard.ensures.kept (ap (λ p. p.count) c.read.ensures.provider)
+invariant_of-self-in-Unbuilt g c =
+    let within : c.args.c.0 < length c.self.inside.clients.items = grind (arith, c.if-not-is_open.ensures.within refl, ap length c.deref.ensures.value) in
+    let was = told_here (g.B.Bay.connection c.self.inside.bay) c.self.inside.desk c.self.inside.clients.items c.args.c.0 c.index_mut-slot.result.now c.self.invariant.told within c.index_mut-slot.ensures.value in
+    let same = same_sent c.self.inside.desk c.index_mut-slot.result.now _ _ (ap (λ (r : ConnectionRecord). r.sent) c.in-Bytes.ensures.answer.5) was in
+    record {
+      session = session_slot c.args.c.0 c.index_mut-slot.result.now c.hear_slot-heard.new.slot _ c.self.invariant.session c.index_mut-slot.ensures.value c.hear_slot-heard.ensures.kept (ap (λ p. p.count) c.read.ensures.provider);
+      told = told_slot _ _ c.self.inside.desk c.self.inside.clients.items c.args.c.0 c.hear_slot-heard.new.slot c.self.invariant.told c.read.ensures.others within
+          (slot_no_more c.self.inside.desk _ c.index_mut-slot.result.now c.hear_slot-heard.new.slot c.len-count.ensures.kept c.in-Err.ensures.left same);
+    }
 
 pub returns-in-Ok-clause-answer : goal.returns-in-Ok-clause-answer
 returns-in-Ok-clause-answer g c =
@@ -88,4 +106,12 @@ returns-clause-answer g c =
     (c.end_short-in-NoMemory.ensures.connections c.args.c.0) refl c.end_short-in-NoMemory.ensures.session)
 
 pub invariant_of-self-in-NoMemory-trouble : goal.invariant_of-self-in-NoMemory-trouble
-invariant_of-self-in-NoMemory-trouble g c = session_slot c.args.c.0 c.index_mut-slot.result.now c.hear_slot-heard.new.slot _ c.self.invariant c.index_mut-slot.ensures.value c.hear_slot-heard.ensures.kept (ap (λ p. p.count) c.read.ensures.provider)
+invariant_of-self-in-NoMemory-trouble g c =
+    let within : c.args.c.0 < length c.self.inside.clients.items = grind (arith, c.if-not-is_open.ensures.within refl, ap length c.deref.ensures.value) in
+    let was = told_here (g.B.Bay.connection c.self.inside.bay) c.self.inside.desk c.self.inside.clients.items c.args.c.0 c.index_mut-slot.result.now c.self.invariant.told within c.index_mut-slot.ensures.value in
+    let same = same_sent c.self.inside.desk c.index_mut-slot.result.now _ _ (ap (λ (r : ConnectionRecord). r.sent) c.in-Bytes.ensures.answer.5) was in
+    record {
+      session = session_slot c.args.c.0 c.index_mut-slot.result.now c.hear_slot-heard.new.slot _ c.self.invariant.session c.index_mut-slot.ensures.value c.hear_slot-heard.ensures.kept (ap (λ p. p.count) c.read.ensures.provider);
+      told = told_slot _ _ c.self.inside.desk c.self.inside.clients.items c.args.c.0 c.hear_slot-heard.new.slot c.self.invariant.told c.read.ensures.others within
+          (slot_no_more c.self.inside.desk _ c.index_mut-slot.result.now c.hear_slot-heard.new.slot c.len-count.ensures.kept c.in-Err.ensures.left same);
+    }

@@ -1,0 +1,4 @@
+pub mod Answers
+pub mod Capabilities
+pub mod Replies
+pub mod Table

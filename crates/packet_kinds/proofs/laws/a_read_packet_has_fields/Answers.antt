@@ -1,0 +1,5 @@
+use Rattle.packet_kinds.proofs.Shapes.{read_has_fields}
+use Rattle.packet_kinds.proofs.laws.a_read_packet_has_fields.Goals as goal
+
+pub returns : goal.returns
+returns c = read_has_fields

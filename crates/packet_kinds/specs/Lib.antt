@@ -1,0 +1,14 @@
+pub mod Items
+pub mod Fields
+pub mod ToClients
+pub mod ToShapes
+pub mod Answers
+pub mod FromClients
+pub mod FromFields
+pub mod FromShapes
+pub mod FromWritten
+pub mod Talk
+pub mod Effects
+pub mod Picture
+pub mod Written
+pub mod Laws

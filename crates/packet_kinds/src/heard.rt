@@ -1,0 +1,31 @@
+// What holds of all that clients say.
+ghost use Rattle.std.specs.Prelude.{◌≡◌, ◌≢◌, ℕ, None, List, [], ◌++◌};
+ghost use Rattle.packet_kinds.specs.Talk.{talk, Continues, PacketIsHeard, FaultIsHeard, ShapeStays, MessageIsHeard, PartIsUnheard};
+
+/// No bytes say nothing.
+pub fn nothing_is_said_at_first()
+    ensures { (limit : ℕ) → talk limit [] ≡ record { first = None; said = []; fault = None } }
+{}
+
+/// What was said stays said, whatever bytes follow.
+pub fn more_bytes_only_say_more()
+    ensures { (limit : ℕ) (bytes more : List ℕ) → Continues (talk limit bytes) (talk limit (bytes ++ more)) }
+{}
+
+/// After a fault nothing more is heard.
+pub fn nothing_is_heard_behind_a_fault()
+    ensures { (limit : ℕ) (bytes more : List ℕ) → (talk limit bytes).fault ≢ None → talk limit (bytes ++ more) ≡ talk limit bytes }
+{}
+
+/// How a talk goes on, packet by packet, to the first fault.
+pub fn a_talk_goes_packet_by_packet()
+    ensures packet { PacketIsHeard }
+    ensures fault { FaultIsHeard }
+    ensures shape { ShapeStays }
+{}
+
+/// A message that a client writes is said as soon as all its bytes are there.
+pub fn a_written_message_is_heard()
+    ensures whole { MessageIsHeard }
+    ensures part { PartIsUnheard }
+{}

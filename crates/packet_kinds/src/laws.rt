@@ -1,0 +1,78 @@
+// What holds of all messages and pictures.
+ghost use Rattle.std.specs.Prelude.{◌≡◌, ℕ, None, []};
+ghost use Rattle.packet_kinds.specs.Picture.{picture};
+ghost use Rattle.packet_kinds.specs.Written.{Show};
+ghost use Rattle.packet_kinds.specs.Laws.{MessageFollows, PartShowsNothing, MessageHasBytes, OneWindowChanges, NumbersStayDistinct, ReadHasFields, EffectKeepsDesktop, DrawShows, DrawHoldsPixels, NewWindowShows, ResizeShows, PictureStops, PictureFolds};
+
+/// No bytes show no window.
+pub fn nothing_is_shown_at_first()
+    ensures show { (limit : ℕ) → Show limit [] [] }
+    ensures picture { (limit : ℕ) → picture limit [] ≡ record { windows = []; fault = None } }
+{}
+
+/// Whole packets followed by a message show what they showed, changed by the message.
+pub fn a_message_follows()
+    ensures { MessageFollows }
+{}
+
+/// A part of a message, short of all, changes nothing.
+pub fn a_part_shows_nothing()
+    ensures { PartShowsNothing }
+{}
+
+/// No message is empty: each has a header of 8 bytes and a spelling.
+pub fn a_message_has_bytes()
+    ensures { MessageHasBytes }
+{}
+
+/// What a client shows of one window depends on the packets on that window alone.
+pub fn one_window_changes()
+    ensures { OneWindowChanges }
+{}
+
+/// No packet makes a second window of one number.
+pub fn numbers_stay_distinct()
+    ensures { NumbersStayDistinct }
+{}
+
+/// The numbers, places and sides of a packet that is read are such as a window or a draw may have.
+pub fn a_read_packet_has_fields()
+    ensures { ReadHasFields }
+{}
+
+/// Where its fields are such, and a draw's bytes are bytes, a packet keeps a desktop.
+pub fn an_effect_keeps_a_desktop()
+    ensures { EffectKeepsDesktop }
+{}
+
+/// A point of a drawn window shows the colour that was decoded for it in the draw's rectangle, and what it
+/// showed elsewhere.
+pub fn a_draw_shows()
+    ensures { DrawShows }
+{}
+
+/// A draw's bytes are taken for its pixels exactly where decoding takes them.
+pub fn a_draw_holds_its_pixels()
+    ensures { DrawHoldsPixels }
+{}
+
+/// Each point of a new window shows 0.
+pub fn a_new_window_shows()
+    ensures { NewWindowShows }
+{}
+
+/// A point of a resized window shows what it showed where it survives, and 0 elsewhere.
+pub fn a_resize_shows()
+    ensures { ResizeShows }
+{}
+
+/// Behind its first fault a picture stays.
+pub fn a_picture_stops()
+    ensures { PictureStops }
+{}
+
+/// A picture has no fault exactly where the bytes have none and each packet is read and has an effect. Then it
+/// is what the effects lead to, in order, from no window.
+pub fn a_picture_folds()
+    ensures { PictureFolds }
+{}

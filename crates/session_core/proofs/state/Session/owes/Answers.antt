@@ -1,0 +1,14 @@
+use Rattle.std.proofs.Common.{◌≡◌, ◌∙◌, ℕ, List, Some, true}
+use Rattle.session_core.specs.Clients.{plain_clients}
+use Rattle.session_core.specs.Owed.{owes}
+use Rattle.session_core.specs.Shown.{shows, Differs, IsAttached}
+use Rattle.session_core.proofs.Shown.{attached_owes}
+use Rattle.session_core.proofs.state.Session.owes.Goals as goal
+
+pub returns-clause-differs : goal.returns-clause-differs
+returns-clause-differs g c =
+    let owed : (sent : List ℕ) → (g.B.Bay.connection c.args.self.now.bay c.args.c.0).sent ≡ Some sent → IsAttached c.args.self.now.clients c.args.c.0
+    → Differs c.args.self.now.desk (shows sent) c.args.wid c.args.x c.args.y → owes c.args.self.now c.args.c.0 c.args.wid c.args.x c.args.y ≡ true =
+    rw (← c.self.view_is) (λ sent bytes attached differs.
+    attached_owes (g.B.Bay.connection c.self.inside.bay) c.self.inside.desk (plain_clients c.self.inside.clients.items) c.args.c.0 c.args.wid c.args.x c.args.y sent c.self.invariant.told c.len-count.ensures.kept bytes attached differs) in
+    λ sent bytes attached differs. c.is_owed.ensures ∙ owed sent bytes attached differs

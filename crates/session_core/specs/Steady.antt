@@ -1,0 +1,13 @@
+-- What every session keeps, of its windows and of each connection that is open.
+use Rattle.std.specs.Prelude.{ℕ, Option, List}
+use Rattle.link_bay.specs.Connections.{ConnectionRecord}
+use Rattle.window_model.specs.Desktop.{Window}
+use Rattle.paint_script.specs.declared.paint.Paint.{Paint}
+use Rattle.session_core.specs.declared.ends.End.{End}
+use Rattle.session_core.specs.Clients.{ClientSeen, plain_clients}
+use Rattle.session_core.specs.State.{IsSession}
+use Rattle.session_core.specs.Told.{AreTold}
+
+pub record IsSteady (connection : ℕ → ConnectionRecord) (lines : List Paint) (place : ℕ) (desk : List Window) (clients : List (Option ClientSeen)) (ends : List End) (count : ℕ) : Type 0 where
+  pub session : IsSession lines place desk clients ends count
+  pub told : AreTold connection desk (plain_clients clients)
