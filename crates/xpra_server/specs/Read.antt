@@ -1,5 +1,5 @@
 -- What reading the input may answer.
-use Rattle.std.specs.Prelude.{ℕ, ◌<◌, ◌≤◌, Option, Some, None, List, length}
+use Rattle.std.specs.Prelude.{ℕ, ◌<◌, ◌≤◌, Option, List, length}
 use Rattle.xp_base.specs.Told.{HandsOut, HasNoneLeft}
 use Rattle.xpra_server.specs.declared.input.Input.{Input}
 use Rattle.xpra_server.specs.declared.input.Input.TheVariants as I

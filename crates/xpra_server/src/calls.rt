@@ -1,5 +1,5 @@
 // The top call.
-ghost use Rattle.std.specs.Prelude.{◌≡◌, ◌≢◌, ◌≤◌, ◌⊎◌, ◌↔◌, IsTrue, true, [], codes, length, map, string_bytes};
+ghost use Rattle.std.specs.Prelude.{◌≡◌, ◌≢◌, All, ◌≤◌, ◌⊎◌, ◌↔◌, IsTrue, true, [], codes, length, map, string_bytes};
 ghost use Rattle.xp_base.specs.Counts.{Rose};
 ghost use Rattle.xp_base.specs.Told.{HasNoneLeft, told_append};
 ghost use Rattle.link_bay.specs.Provider.{IsFresh};
@@ -67,6 +67,7 @@ pub fn top<S: Source, K: Sink, B: Bay + Drop>(
     ensures untouched { (result.status ≡ 2) ⊎ (result.status ≡ 3) → result.bay ≡ bay }
     ensures counted { length result.ends.items ≡ (B.provider result.bay).count }
     ensures ended { result.status ≡ 0 → AreEnds result.ends.items }
+    ensures fed { result.status ≢ 5 → All (λ e. e ≢ End.Short) result.ends.items }
     ensures asked { result.status ≡ 0 → Asks (S.source input.old).left (B.provider bay).asked (B.provider result.bay).asked }
     ensures served { result.status ≡ 0 → B.tells ≡ true → (B.provider result.bay).room ≡ 0 }
 {
@@ -119,6 +120,7 @@ fn play_script<K: Sink, B: Bay + Drop>(
     ensures unwritten { result.status ≡ 6 → K.sink out.new ≡ K.sink out.old }
     ensures counted { length result.ends.items ≡ (B.provider result.bay).count }
     ensures ended { result.status ≡ 0 → AreEnds result.ends.items }
+    ensures fed { result.status ≢ 5 → All (λ e. e ≢ End.Short) result.ends.items }
     ensures asked { result.status ≡ 0 → (B.provider result.bay).asked ≡ told_append (B.provider bay).asked (peer_orders script.now) }
     ensures served { result.status ≡ 0 → B.tells ≡ true → (B.provider result.bay).room ≡ 0 }
 {

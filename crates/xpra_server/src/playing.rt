@@ -1,5 +1,5 @@
 // A run of a script, to its settling.
-ghost use Rattle.std.specs.Prelude.{◌≡◌, ◌≤◌, true, Err, OnOk, IfOk, IsOk, length};
+ghost use Rattle.std.specs.Prelude.{◌≡◌, ◌≢◌, ◌≤◌, All, true, Err, OnOk, IfOk, IsOk, length};
 ghost use Rattle.xp_base.specs.Counts.{Rose};
 ghost use Rattle.link_bay.specs.Provider.{IsFresh};
 ghost use Rattle.paint_script.specs.Painting.{last_desk};
@@ -36,6 +36,7 @@ pub fn play<B: Bay + Drop>(alloc: Global, script: &Script, bay: B) -> Played<B>
     ensures accept { result.shown ≡ Err Stop.BayFault → Rose (B.provider bay).faults (B.provider result.bay).faults }
     ensures counted { length result.ends.items ≡ (B.provider result.bay).count }
     ensures ended { IsOk result.shown → AreEnds result.ends.items }
+    ensures fed { result.shown ≢ Err Stop.NoMemory → All (λ e. e ≢ End.Short) result.ends.items }
     ensures asked { IsOk result.shown → (B.provider result.bay).asked ≡ told_append (B.provider bay).asked (peer_orders script.now) }
     ensures served { IsOk result.shown → B.tells ≡ true → (B.provider result.bay).room ≡ 0 }
 {

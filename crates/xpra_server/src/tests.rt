@@ -1,6 +1,6 @@
 use crate::calls::{Outcome, top};
 use crate::closing_bay::ClosingBay;
-use link_bay::{Kind, MuteBay, Name, OneBay, Order};
+use link_bay::{Kind, MuteBay, Name, OneBay, Order, PassingBay};
 use paint_script::{Script, ScriptRead, read_script};
 use session_core::{Accepted, End, Session};
 use std::alloc::Global;
@@ -197,14 +197,14 @@ fn each_connection_is_closed_once_at_the_end_of_a_run(rt: HostRuntime) -> Result
     }
     let mut input = MemSource::new(Vec::new(alloc), numbers(alloc, &[])?);
     let mut out = MemSink::new(alloc, numbers(alloc, &[])?);
-    let bay = ClosingBay::new(MuteBay::new(alloc, 2, 10));
+    let bay = PassingBay::new(ClosingBay::new(MuteBay::new(alloc, 2, 10)));
     let outcome = top(&words, &mut input, &mut out, bay);
     assert_eq!(rt; outcome.status, 0);
     assert_eq!(rt;
         outcome.ends.as_slice(),
         [End::Unbuilt, End::Unbuilt].as_slice()
     );
-    assert_eq!(rt; outcome.bay.closes, [1, 1, 0, 0]);
+    assert_eq!(rt; outcome.bay.into_inner().closes, [1, 1, 0, 0]);
     Ok(())
 }
 
