@@ -1,5 +1,5 @@
 -- What a client heard, from how the bytes begin.
-use Rattle.std.proofs.Common.{◌≡◌, inl, inr, ℕ, ◌+◌, ◌*◌, ◌<◌, ◌≤◌, true, false, Option, Some, List, ◌++◌, length, drop, ap, ◌∙◌, sym, subst, arith}
+use Rattle.std.proofs.Common.{◌≡◌, inl, inr, ℕ, ◌+◌, ◌*◌, ◌<◌, ◌≤◌, true, false, Option, Some, List, [], ◌∷◌, zero, suc, ◌++◌, length, drop, ap, ◌∙◌, sym, subst, arith}
 use Rattle.std.proofs.lemmas.List.{length-append, append_cancel_left}
 use Rattle.std.specs.List.{concat}
 use Rattle.std.specs.Prelude.{replicate, Result, Ok, Err, OnErr}
@@ -8,7 +8,7 @@ use Rattle.paint_script.specs.declared.paint.Paint.{Paint}
 use Rattle.session_core.specs.declared.geometry.Geometry.{Geometry}
 use Rattle.session_core.specs.Clients.{ClientSeen, attached}
 use Rattle.session_core.specs.Wire.{exact_hello, map_window}
-use Rattle.session_core.specs.Hearing.{IsNeither, Repeats, AreMaps, Hears, HearsAs, HearsMaps, HearsFirst, IsUnbuilt, script_window, after_maps}
+use Rattle.session_core.specs.Hearing.{IsNeither, Repeats, begun, AreMaps, Hears, HearsAs, HearsMaps, HearsFirst, IsUnbuilt, script_window, after_maps}
 use Rattle.session_core.proofs.Hearings.{part_shorter, repeats_behind, concat_size}
 
 pub hears_on : (lines : List Paint) (desk : List Window) (c : ClientSeen) (bytes : List ℕ) (c' : ClientSeen) → c.greeted ≡ true → HearsMaps lines c (c.unread ++ bytes) c' → Hears lines desk c bytes c'
@@ -57,19 +57,29 @@ repeats_as packet packet' bytes bytes' count same also repeats =
 pub map_window_some : (g : Geometry) → 0 < length (map_window g)
 map_window_some g = omega arith
 
+begun_most : (rest : List ℕ) → begun rest ≤ 1
+begun_most [] = omega arith
+begun_most (b ∷ rest) = omega arith
+
+-- where something is left, there is a map more, or one has begun
+begun_behind : (packet rest r : List ℕ) (m : ℕ) → Repeats packet m r rest → begun rest ≤ m + begun r
+begun_behind packet rest r zero repeats = rw repeats.0 (omega arith)
+begun_behind packet rest r (suc m) repeats = let most = begun_most rest in omega (arith, most)
+
 -- too many maps
 pub maps_over : (lines : List Paint) (g : Geometry) (c : ClientSeen) (bytes rest : List ℕ) (count : ℕ) → script_window lines ≡ Some g → 0 < length (map_window g) → Repeats (map_window g) count rest bytes
-    → 1000 < c.maps + count → (c' : ClientSeen) → HearsMaps lines c bytes c' → ⊥
+    → 1000 < c.maps + count + begun rest → (c' : ClientSeen) → HearsMaps lines c bytes c' → ⊥
 maps_over lines g c bytes rest count is some repeats over c' hears =
     let other : Repeats (map_window g) hears.0 hears.1 bytes = subst (λ (o : Option Geometry). AreMaps o hears.0 hears.1 bytes) is hears.2 in
     let behind = repeats_behind (map_window g) some count hears.0 rest hears.1 bytes repeats.0 other in
     let small = hears.3 in
     let more = behind.1 in
-    omega (arith, small, more, over)
+    let left = begun_behind (map_window g) rest hears.1 behind.0 behind.2 in
+    omega (arith, small, more, left, over)
 
 -- as many maps as may be
 pub maps_heard : (lines : List Paint) (g : Geometry) (c : ClientSeen) (bytes rest : List ℕ) (count : ℕ) (c' : ClientSeen) → script_window lines ≡ Some g → Repeats (map_window g) count rest bytes
-    → c.maps + count ≤ 1000 → c' ≡ after_maps (Some g) count rest c → HearsMaps lines c bytes c'
+    → c.maps + count + begun rest ≤ 1000 → c' ≡ after_maps (Some g) count rest c → HearsMaps lines c bytes c'
 maps_heard lines g c bytes rest count c' is repeats small after = (
   count,
   rest,

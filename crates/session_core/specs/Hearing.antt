@@ -43,10 +43,16 @@ mapped_sources (Some g) count sources = if nat_lt 0 count then map (mapped_sourc
 abbrev pub after_maps : Option Geometry → ℕ → List ℕ → ClientSeen → ClientSeen
 after_maps window count rest c = record c { maps = c.maps + count; unread = rest; sources = mapped_sources window count c.sources }
 
--- a client whose hello was accepted, with these bytes that were not handled yet, before and after
+-- 1 where a map has begun and is not whole
+abbrev pub begun : List ℕ → ℕ
+begun [] = 0
+begun (b ∷ rest) = 1
+
+-- a client whose hello was accepted, with these bytes that were not handled yet, before and after: at most 1,000 maps are
+-- read or have begun
 abbrev pub HearsMaps : List Paint → ClientSeen → List ℕ → ClientSeen → Type 0
 HearsMaps lines c bytes c' = (count : ℕ) × (rest : List ℕ) × AreMaps (script_window lines) count rest bytes
-    × (c.maps + count ≤ 1000) × (c' ≡ after_maps (script_window lines) count rest c)
+    × (c.maps + count + begun rest ≤ 1000) × (c' ≡ after_maps (script_window lines) count rest c)
 
 -- the bytes begin with the hello: it is accepted, and the rest is heard
 abbrev pub HearsHello : List Paint → List Window → ClientSeen → List ℕ → ClientSeen → Type 0

@@ -3,7 +3,7 @@
 ghost use Rattle.std.specs.Prelude.{◌≡◌, ◌≤◌, ◌<◌, ◌*◌, ◌++◌, ◌∷◌, ℕ, List, OnOk, OnErr, Err, None, IfOk, IfSome, length, drop, map, nat_lt, if◌then◌else◌};
 ghost use Rattle.std.specs.Option.{option_map};
 ghost use Rattle.session_core.specs.Clients.{ClientSeen, plain, fresh_source, structure_packet, mapped_source};
-ghost use Rattle.session_core.specs.Hearing.{script_window as opened_window, IsPartOf, IsNeither, Repeats};
+ghost use Rattle.session_core.specs.Hearing.{script_window as opened_window, IsPartOf, IsNeither, Repeats, begun};
 ghost use Rattle.session_core.specs.Wire.{server_hello, geometry_of, new_window};
 
 use crate::client::Client;
@@ -70,6 +70,17 @@ fn count_packets(bytes: &[u8], packet: &[u8]) -> Option<usize>
             Front::Part => return Some(count),
             Front::Other => return None,
         }
+    }
+}
+
+/// How many maps have begun and are not whole, where this is left behind whole ones.
+fn begun_maps(rest: &[u8]) -> usize
+    ensures { result ≡ begun rest.now }
+{
+    if rest.is_empty() {
+        0
+    } else {
+        1
     }
 }
 
@@ -153,11 +164,13 @@ impl Client {
         let Some(count) = count_packets(self.unread.as_slice(), packet.as_slice()) else {
             return Err(Trouble::Unbuilt);
         };
-        if count > (MOST_MAPS - self.maps) as usize {
+        let handled = count * packet.len();
+        let begun = begun_maps(&self.unread.as_slice()[handled..]);
+        if count + begun > (MOST_MAPS - self.maps) as usize {
             return Err(Trouble::Unbuilt);
         }
         self.maps += count as u32;
-        self.unread.drain(..count * packet.len());
+        self.unread.drain(..handled);
         map_sources(&mut self.sources, geometry.wid, count);
         Ok(())
     }
