@@ -20,3 +20,4 @@ pub mod Attachings
 pub mod Steadies
 pub mod Shown
 pub mod Owing
+pub mod Owned

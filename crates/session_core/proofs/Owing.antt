@@ -1,6 +1,6 @@
 -- How each step changes what a client is owed.
 use Rattle.std.proofs.Common.{◌≡◌, ◌≢◌, ◌⊎◌, inl, inr, ℕ, pos, zero, suc, ◌+◌, ◌<◌, Bool, true, false, not, ◌&&◌, ◌||◌, List, [], ◌∷◌, ◌++◌, Option, Some, None, length, map, get_or, set, drop, cond, eqb, refl, sym, ap, ◌∙◌, subst, arith}
-use Rattle.std.specs.Prelude.{All, AllPairs, position, slice_get, nat_lt, is_some}
+use Rattle.std.specs.Prelude.{All, AllPairs, position, slice_get, nat_lt, is_some, if◌then◌else◌}
 use Rattle.std.proofs.lemmas.List.Elements.{All-head, All-tail}
 use Rattle.std.specs.List.{list_any}
 use Rattle.std.proofs.lemmas.Bool.{cases_Bool, eqb-true, eq-eqb, cond-true, cond-false}
@@ -40,17 +40,13 @@ write_owes c wid x y = go c.packets
     rest : List Packet → Bool
     rest packets = list_any (λ (p : Packet). draw_relieves wid x y p.draw) packets
 
-    go : (packets : List Packet) → (sources || rest (drop 1 packets)) ≡ ((sources || rest packets) && not (front_relieves packets wid x y && not (sources || rest (drop 1 packets))))
-    go [] = grind (arith, nat_tests)
-    go (p ∷ packets) = boolean sources (draw_relieves wid x y p.draw) (rest packets)
+    go : (packets : List Packet) → (sources || rest (drop 1 packets)) ≡ (if front_relieves packets wid x y then (sources || rest (drop 1 packets)) else (sources || rest packets))
+    go [] = refl
+    go (p ∷ packets) = boolean (draw_relieves wid x y p.draw)
       where
-        boolean : (s f r : Bool) → (s || r) ≡ ((s || (f || r)) && not (f && not (s || r)))
-        boolean true true r = refl
-        boolean true false r = refl
-        boolean false true true = refl
-        boolean false true false = refl
-        boolean false false true = refl
-        boolean false false false = refl
+        boolean : (f : Bool) → (sources || rest packets) ≡ (if f then (sources || rest packets) else (sources || (f || rest packets)))
+        boolean true = refl
+        boolean false = refl
 
 -- a source that was mapped owes the same
 mapped_owes : (marked wid x y : ℕ) (sources : List Source) → list_any (λ (s : Source). source_owes wid x y s) (map (mapped_source marked) sources) ≡ list_any (λ (s : Source). source_owes wid x y s) sources
@@ -164,11 +160,11 @@ capture_owes window place s c wid x y there =
     shuffled false false false = refl
 
 -- no two sources have one number
-abbrev DistinctNumbers : List Source → Type 0
+abbrev pub DistinctNumbers : List Source → Type 0
 DistinctNumbers sources = AllPairs (λ (a b : Source). a.wid ≢ b.wid) sources
 
 -- what is owed at a window's source is what its source owes
-any_found : (sources : List Source) (wid x y : ℕ) (s : Source) → DistinctNumbers sources → find_source sources wid ≡ Some s → list_any (λ (t : Source). source_owes wid x y t) sources ≡ has s.pending x y
+pub any_found : (sources : List Source) (wid x y : ℕ) (s : Source) → DistinctNumbers sources → find_source sources wid ≡ Some s → list_any (λ (t : Source). source_owes wid x y t) sources ≡ has s.pending x y
 any_found [] wid x y s distinct found = absurd (cc found)
 any_found (t ∷ sources) wid x y s distinct found = go (cases_Bool (eqb t.wid wid)) (any_found sources wid x y s (λ i k d before within. distinct (suc i) (suc k) d (omega (arith, before)) (omega (arith, within)))) found
   where
@@ -188,7 +184,7 @@ any_found (t ∷ sources) wid x y s distinct found = go (cases_Bool (eqb t.wid w
         rw (here, others here sources (λ k d within. distinct 0 (suc k) d (omega arith) (omega (arith, within)))) (or_none _ ∙ ap (λ (u : Source). has u.pending x y) same)
     go (inr elsewhere) rest found = rw elsewhere (rest (sym (cond-false _ _ _ elsewhere) ∙ found))
 
-none_found : (sources : List Source) (wid x y : ℕ) → find_source sources wid ≡ None → list_any (λ (t : Source). source_owes wid x y t) sources ≡ false
+pub none_found : (sources : List Source) (wid x y : ℕ) → find_source sources wid ≡ None → list_any (λ (t : Source). source_owes wid x y t) sources ≡ false
 none_found [] wid x y missing = refl
 none_found (t ∷ sources) wid x y missing = go (cases_Bool (eqb t.wid wid)) (none_found sources wid x y) missing
   where
@@ -198,7 +194,7 @@ none_found (t ∷ sources) wid x y missing = go (cases_Bool (eqb t.wid wid)) (no
     go (inr elsewhere) rest missing = rw elsewhere (rest (sym (cond-false _ _ _ elsewhere) ∙ missing))
 
 -- the same of the desktop
-desk_found : (desk : List Window) (wid x y : ℕ) (w : Window) → AllPairs (λ (a b : Window). a.wid ≢ b.wid) desk → find_window desk wid ≡ Some w → on_desk desk wid x y ≡ is_within w.w w.h x y
+pub desk_found : (desk : List Window) (wid x y : ℕ) (w : Window) → AllPairs (λ (a b : Window). a.wid ≢ b.wid) desk → find_window desk wid ≡ Some w → on_desk desk wid x y ≡ is_within w.w w.h x y
 desk_found [] wid x y w distinct found = absurd (cc found)
 desk_found (v ∷ desk) wid x y w distinct found = go (cases_Bool (eqb v.wid wid)) (desk_found desk wid x y w (λ i k d before within. distinct (suc i) (suc k) d (omega (arith, before)) (omega (arith, within)))) found
   where
@@ -217,7 +213,7 @@ desk_found (v ∷ desk) wid x y w distinct found = go (cases_Bool (eqb v.wid wid
         rw (here, others here desk (λ k d within. distinct 0 (suc k) d (omega arith) (omega (arith, within)))) (or_none _ ∙ ap (λ (u : Window). is_within u.w u.h x y) same)
     go (inr elsewhere) rest found = rw elsewhere (rest (sym (cond-false _ _ _ elsewhere) ∙ found))
 
-desk_missing : (desk : List Window) (wid x y : ℕ) → find_window desk wid ≡ None → on_desk desk wid x y ≡ false
+pub desk_missing : (desk : List Window) (wid x y : ℕ) → find_window desk wid ≡ None → on_desk desk wid x y ≡ false
 desk_missing [] wid x y missing = refl
 desk_missing (v ∷ desk) wid x y missing = go (cases_Bool (eqb v.wid wid)) (desk_missing desk wid x y) missing
   where
@@ -227,7 +223,7 @@ desk_missing (v ∷ desk) wid x y missing = go (cases_Bool (eqb v.wid wid)) (des
     go (inr elsewhere) rest missing = rw elsewhere (rest (sym (cond-false _ _ _ elsewhere) ∙ missing))
 
 -- the sources of a desktop's windows have different numbers
-sources_distinct : (desk : List Window) (sources : List Source) → AreSources desk sources → AllPairs (λ (a b : Window). a.wid ≢ b.wid) desk → DistinctNumbers sources
+pub sources_distinct : (desk : List Window) (sources : List Source) → AreSources desk sources → AllPairs (λ (a b : Window). a.wid ≢ b.wid) desk → DistinctNumbers sources
 sources_distinct desk sources are distinct = λ i k d before within same.
     let e : Window = record { wid = d.wid; x = pos 0; y = pos 0; w = 0; h = 0; pixels = [] } in
     let number : (n : ℕ) → (get_or sources n d).wid ≡ (get_or desk n e).wid = λ n.

@@ -1,5 +1,5 @@
 -- What is kept of a client comes to this: each pixel in which it differs from the desktop is owed.
-use Rattle.std.proofs.Common.{◌≡◌, ◌≢◌, ◌⊎◌, inl, inr, ℕ, ◌*◌, true, false, ◌&&◌, List, [], ◌∷◌, ◌++◌, Option, Some, None, length, map, take, drop, cond, eqb, refl, sym, ap, ◌∙◌, subst, arith}
+use Rattle.std.proofs.Common.{◌≡◌, ◌≢◌, ◌⊎◌, inl, inr, ℕ, ◌*◌, Bool, true, false, ◌&&◌, ◌||◌, List, [], ◌∷◌, ◌++◌, Option, Some, None, length, map, take, drop, cond, eqb, refl, sym, ap, ◌∙◌, subst, arith}
 use Rattle.std.specs.Prelude.{All, is_some, IsSomeAnd}
 use Rattle.std.proofs.lemmas.List.Elements.{All-weaker}
 use Rattle.link_bay.specs.Connections.{ConnectionRecord}
@@ -33,7 +33,7 @@ use Rattle.session_core.specs.Wire.{client_limit}
 use Rattle.session_core.specs.Clients.{ClientSeen, front_rest, IsTaken}
 use Rattle.session_core.specs.Owed.{draw_relieves, source_owes, client_owes, slot_owes}
 use Rattle.session_core.specs.Delivery.{rules, grid_of, waits_as, waiting_on, find_source, delivery}
-use Rattle.session_core.specs.Told.{CarryAll, IsDrawOf, effects, front_bytes, IsTold, IsToldWhereTold, AreTold}
+use Rattle.session_core.specs.Told.{CarryAll, IsDrawOf, effects, front_bytes, IsTold, IsToldFor, AreTold}
 use Rattle.session_core.specs.Shown.{shows, number_on, Differs, OwesWhatDiffers, IsAttached, unsent, WillShowTheDesktop, WindowsAreSteady}
 use Rattle.session_core.proofs.Deliveries.{has_as, number_as}
 use Rattle.session_core.proofs.Sources.{some_same, found_one, source_where}
@@ -51,43 +51,52 @@ shows_told desk c sent told = ap (picture client_limit) told.sent_is ∙ go c.pa
         let some : drop c.taken p.bytes ≢ [] = λ none. absurd (omega (arith, part, ap length none, length-drop c.taken p.bytes)) in
         part_shows_nothing client_limit told.done p.bytes (take c.taken p.bytes) (drop c.taken p.bytes) m told.windows told.show carried.0.message (sym (take-append-drop c.taken p.bytes)) some
 
--- a point that no draw relieves is relieved by no packet that waits
-relieved_none : (k x y : ℕ) (packets : List Packet) (messages : List ToClient) → CarryAll packets messages → list_any (λ (p : Packet). draw_relieves k x y p.draw) packets ≡ false
-    → packets_relieve (waiting_on k packets messages) x y ≡ false
-relieved_none k x y [] messages carried none = refl
-relieved_none k x y (p ∷ packets) [] carried none = absurd carried
-relieved_none k x y (p ∷ packets) (m ∷ messages) carried none =
-    let parts = or_parts _ _ none in
-    first p.draw m carried.0.draw (waiting_on k packets messages) parts.0 (relieved_none k x y packets messages carried.1 parts.1)
+-- the packets that wait on a window relieve what their draws do
+pub relieves_as : (k x y : ℕ) (packets : List Packet) (messages : List ToClient) → CarryAll packets messages
+    → list_any (λ (p : Packet). draw_relieves k x y p.draw) packets ≡ packets_relieve (waiting_on k packets messages) x y
+relieves_as k x y [] messages carried = refl
+relieves_as k x y (p ∷ packets) [] carried = absurd carried
+relieves_as k x y (p ∷ packets) (m ∷ messages) carried =
+    first p.draw m carried.0.draw (list_any (λ (q : Packet). draw_relieves k x y q.draw) packets) (waiting_on k packets messages) (relieves_as k x y packets messages carried.1)
   where
-    same_number : (d : Draw) (wid : ℕ) → d.wid ≡ wid → (eqb k wid ≡ true) → ((eqb d.wid k) && has_point d.relief x y) ≡ false → has_point d.relief x y ≡ false
-    same_number d wid is here none = ap (λ b. b && has_point d.relief x y) (sym (ap (λ n. eqb n k) is ∙ eq-eqb wid k (sym (eqb-true k wid here)))) ∙ none
+    number_test : (d : Draw) (wid : ℕ) (b : Bool) → d.wid ≡ wid → eqb k wid ≡ b → eqb d.wid k ≡ b
+    number_test d wid true is here = ap (λ n. eqb n k) is ∙ eq-eqb wid k (sym (eqb-true k wid here))
+    number_test d wid false is elsewhere = grind (arith, nat_tests, is, elsewhere)
 
-    first : (draw : Option Draw) (m : ToClient) → IsDrawOf draw m → (waiting : List Waiting) → draw_relieves k x y draw ≡ false → packets_relieve waiting x y ≡ false
-        → packets_relieve (waits_as k draw m ++ waiting) x y ≡ false
-    first draw (T.Hello caps) is waiting none rest = rest
-    first draw (T.NewWindow wid a b w h) is waiting none rest = go (cases_Bool (eqb k wid))
+    first : (draw : Option Draw) (m : ToClient) → IsDrawOf draw m → (rest : Bool) (waiting : List Waiting) → rest ≡ packets_relieve waiting x y
+        → (draw_relieves k x y draw || rest) ≡ packets_relieve (waits_as k draw m ++ waiting) x y
+    first None (T.Hello caps) is rest waiting same = same
+    first (Some d) (T.Hello caps) is rest waiting same = absurd is
+    first None (T.NewWindow wid a b w h) is rest waiting same = go (eqb k wid)
       where
-        go : (eqb k wid ≡ true) ⊎ (eqb k wid ≡ false) → packets_relieve (cond (eqb k wid) (NewWindow w h ∷ []) [] ++ waiting) x y ≡ false
-        go (inl here) = rw here rest
-        go (inr elsewhere) = rw elsewhere rest
-    first draw (T.LostWindow wid) is waiting none rest = rest
-    first draw (T.WindowResized wid w h) is waiting none rest = go (cases_Bool (eqb k wid))
+        go : (here : Bool) → rest ≡ packets_relieve (cond here (NewWindow w h ∷ []) [] ++ waiting) x y
+        go true = same
+        go false = same
+    first (Some d) (T.NewWindow wid a b w h) is rest waiting same = absurd is
+    first None (T.WindowResized wid w h) is rest waiting same = go (eqb k wid)
       where
-        go : (eqb k wid ≡ true) ⊎ (eqb k wid ≡ false) → packets_relieve (cond (eqb k wid) (WindowResized w h ∷ []) [] ++ waiting) x y ≡ false
-        go (inl here) = rw here rest
-        go (inr elsewhere) = rw elsewhere rest
-    first draw (T.WindowMoveResize wid a b w h) is waiting none rest = rest
-    first draw (T.RaiseWindow wid) is waiting none rest = rest
-    first None (T.Draw wid a b w h coding bytes sequence stride) is waiting none rest = rest
-    first (Some d) (T.Draw wid a b w h coding bytes sequence stride) is waiting none rest = go (cases_Bool (eqb k wid))
+        go : (here : Bool) → rest ≡ packets_relieve (cond here (WindowResized w h ∷ []) [] ++ waiting) x y
+        go true = same
+        go false = same
+    first (Some d) (T.WindowResized wid w h) is rest waiting same = absurd is
+    first None (T.LostWindow wid) is rest waiting same = same
+    first (Some d) (T.LostWindow wid) is rest waiting same = absurd is
+    first None (T.WindowMoveResize wid a b w h) is rest waiting same = same
+    first (Some d) (T.WindowMoveResize wid a b w h) is rest waiting same = absurd is
+    first None (T.RaiseWindow wid) is rest waiting same = same
+    first (Some d) (T.RaiseWindow wid) is rest waiting same = absurd is
+    first None (T.PingEcho t) is rest waiting same = same
+    first (Some d) (T.PingEcho t) is rest waiting same = absurd is
+    first None (T.Disconnect reason) is rest waiting same = same
+    first (Some d) (T.Disconnect reason) is rest waiting same = absurd is
+    first None T.Other is rest waiting same = same
+    first (Some d) T.Other is rest waiting same = absurd is
+    first None (T.Draw wid a b w h coding bytes sequence stride) is rest waiting same = absurd is
+    first (Some d) (T.Draw wid a b w h coding bytes sequence stride) is rest waiting same = go (cases_Bool (eqb k wid))
       where
-        go : (eqb k wid ≡ true) ⊎ (eqb k wid ≡ false) → packets_relieve (waits_as k (Some d) (T.Draw wid a b w h coding bytes sequence stride) ++ waiting) x y ≡ false
-        go (inl here) = rw (here, has_as d.relief x y, same_number d wid is.0 here none) rest
-        go (inr elsewhere) = rw elsewhere rest
-    first draw (T.PingEcho t) is waiting none rest = rest
-    first draw (T.Disconnect reason) is waiting none rest = rest
-    first draw T.Other is waiting none rest = rest
+        go : (eqb k wid ≡ true) ⊎ (eqb k wid ≡ false) → (draw_relieves k x y (Some d) || rest) ≡ packets_relieve (waits_as k (Some d) (T.Draw wid a b w h coding bytes sequence stride) ++ waiting) x y
+        go (inl here) = rw (here, has_as d.relief x y, number_test d wid true is.0 here, same) refl
+        go (inr elsewhere) = rw (elsewhere, number_test d wid false is.0 elsewhere, same) refl
 
 -- a point that no source owes is not pending
 pending_none : (k x y : ℕ) (sources : List Source) (s : Source) → list_any (λ (t : Source). source_owes k x y t) sources ≡ false → find_source sources k ≡ Some s → has_point s.pending x y ≡ false
@@ -109,7 +118,7 @@ unowed : (c : ClientSeen) (k x y : ℕ) (window : Window) (client : Option Windo
 unowed c k x y window client messages s none carried found =
     let parts = or_parts _ _ none in
     let pending : has_point s.pending x y ≡ false = pending_none k x y c.sources s parts.0 found in
-    let draws = relieved_none k x y c.packets messages carried parts.1 in
+    let draws = sym (relieves_as k x y c.packets messages carried) ∙ parts.1 in
     rw (has_as s.pending x y, pending, draws, has-points window.w window.h (λ x y. false) x y) (grind (arith, nat_tests))
 
 -- what the client's window shows is the number there
@@ -204,5 +213,5 @@ attached_owes connection desk clients k wid x y sent told is bytes attached diff
     go : (o : Option ClientSeen) → open_client clients k ≡ o → IsSomeAnd o (λ (c : ClientSeen). c.greeted ≡ true) → slot_owes wid x y o ≡ true
     go None here attached = absurd attached
     go (Some c) here attached =
-        let kept : IsTold desk c sent = subst (IsToldWhereTold desk c) bytes (told k c here) in
+        let kept : IsTold desk c sent = subst (IsToldFor desk c) bytes (told k c here) in
         owes_what_differs desk c sent (desk_sized desk is) kept attached wid x y differs

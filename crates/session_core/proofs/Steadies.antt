@@ -24,7 +24,7 @@ use Rattle.session_core.specs.Capturing.{CapturesWindow, CapturesSlot}
 use Rattle.session_core.specs.declared.ends.End.{End}
 use Rattle.session_core.specs.declared.ends.End.TheVariants.{Unended}
 use Rattle.session_core.specs.Steady.{IsSteady}
-use Rattle.session_core.specs.Told.{IsTold, IsToldWhereTold, AreTold}
+use Rattle.session_core.specs.Told.{IsTold, IsToldFor, AreTold}
 use Rattle.session_core.proofs.Slots.{plain_clients-set}
 use Rattle.session_core.proofs.Lives.{open_at, session_accepted, length_same, live_same}
 use Rattle.session_core.proofs.Sources.{some_same}
@@ -49,7 +49,7 @@ open_here (c ∷ clients) (suc k) slot within = open_here clients k slot (omega 
 
 -- what is kept of a connection's slot, where one is there
 abbrev pub IsToldSlot : List Window → Option ClientSeen → Option (List ℕ) → Type 0
-IsToldSlot desk slot sent = (c : ClientSeen) → option_map plain slot ≡ Some c → IsToldWhereTold desk c sent
+IsToldSlot desk slot sent = (c : ClientSeen) → option_map plain slot ≡ Some c → IsToldFor desk c sent
 
 -- one connection is as it is now, and the others stay
 pub told_slot : (connection connection' : ℕ → ConnectionRecord) (desk : List Window) (clients : List (Option ClientSeen)) (k : ℕ) (slot' : Option ClientSeen) → AreTold connection desk (plain_clients clients)
@@ -60,9 +60,9 @@ told_slot connection connection' desk clients k slot' told others within next = 
       | inl same ↦
           let here : option_map plain slot' ≡ Some c =
           sym (open_here (plain_clients clients) k (option_map plain slot') (omega (arith, within, length-map clients (option_map plain)))) ∙ ap (open_client (set (plain_clients clients) k (option_map plain slot'))) (sym same) ∙ now in
-          subst (λ n. IsToldWhereTold desk c (connection' n).sent) (sym same) (next c here)
+          subst (λ n. IsToldFor desk c (connection' n).sent) (sym same) (next c here)
       | inr other ↦
-          subst (IsToldWhereTold desk c) (sym (ap (λ r. r.sent) (others d other))) (told d c (sym (open_other (plain_clients clients) k d (option_map plain slot') other) ∙ now))
+          subst (IsToldFor desk c) (sym (ap (λ r. r.sent) (others d other))) (told d c (sym (open_other (plain_clients clients) k d (option_map plain slot') other) ∙ now))
     ]
 
 -- what is kept of the connection that stands there
@@ -72,7 +72,7 @@ told_here connection desk clients k slot told within here = λ c is. told k c (o
 
 -- nothing changed but the provider, which tells the same bytes
 pub told_same : (connection connection' : ℕ → ConnectionRecord) (desk : List Window) (clients : List (Option ClientSeen)) → AllStay connection connection' → AreTold connection desk clients → AreTold connection' desk clients
-told_same connection connection' desk clients stay told = λ k c is. subst (IsToldWhereTold desk c) (sym (ap (λ r. r.sent) (stay k))) (told k c is)
+told_same connection connection' desk clients stay told = λ k c is. subst (IsToldFor desk c) (sym (ap (λ r. r.sent) (stay k))) (told k c is)
 
 open_mapped : (f : ClientSeen → ClientSeen) (clients : List (Option ClientSeen)) (k : ℕ) → open_client (map (option_map f) clients) k ≡ option_map f (open_client clients k)
 open_mapped f [] k = refl
@@ -84,13 +84,13 @@ pub told_all : (connection : ℕ → ConnectionRecord) (desk desk' : List Window
     → AreTold connection desk clients → AreTold connection desk' (map (option_map f) clients)
 told_all connection desk desk' f clients step told = λ k c is. go k c (open_client clients k) refl (sym (open_mapped f clients k) ∙ is)
   where
-    where_told : (c : ClientSeen) (sent : Option (List ℕ)) → IsToldWhereTold desk c sent → IsToldWhereTold desk' (f c) sent
-    where_told c None told = tt
+    where_told : (c : ClientSeen) (sent : Option (List ℕ)) → IsToldFor desk c sent → IsToldFor desk' (f c) sent
+    where_told c None told = (told.0, step c told.0 told.1)
     where_told c (Some sent) told = step c sent told
 
-    go : (k : ℕ) (c : ClientSeen) (o : Option ClientSeen) → open_client clients k ≡ o → option_map f o ≡ Some c → IsToldWhereTold desk' c (connection k).sent
+    go : (k : ℕ) (c : ClientSeen) (o : Option ClientSeen) → open_client clients k ≡ o → option_map f o ≡ Some c → IsToldFor desk' c (connection k).sent
     go k c None here is = absurd (cc is)
-    go k c (Some d) here is = subst (λ (e : ClientSeen). IsToldWhereTold desk' e (connection k).sent) (some_same (f d) c is) (where_told d (connection k).sent (told k d here))
+    go k c (Some d) here is = subst (λ (e : ClientSeen). IsToldFor desk' e (connection k).sent) (some_same (f d) c is) (where_told d (connection k).sent (told k d here))
 
 open_pushed : (clients : List (Option ClientSeen)) (slot : Option ClientSeen) (k : ℕ) → k ≢ length clients → open_client (clients ++ slot ∷ []) k ≡ open_client clients k
 open_pushed [] slot zero other = absurd (other refl)
@@ -111,21 +111,21 @@ told_accepted connection connection' tells desk clients c new told others fresh 
     elim (cases_eq k (length clients)) [
       | inl same ↦
           let here : plain c ≡ d = some_same (plain c) d (sym (ap (open_client (plain_clients clients ++ Some (plain c) ∷ [])) (same ∙ sym count) ∙ open_last (plain_clients clients) (Some (plain c))) ∙ now) in
-          subst (λ n. IsToldWhereTold desk d (connection' n).sent) (sym same)
-          (subst (λ r. IsToldWhereTold desk d r.sent) (sym fresh)
-          (subst (λ (e : ClientSeen). IsToldWhereTold desk e (told_empty tells)) (sym new ∙ here) (first tells)))
+          subst (λ n. IsToldFor desk d (connection' n).sent) (sym same)
+          (subst (λ r. IsToldFor desk d r.sent) (sym fresh)
+          (subst (λ (e : ClientSeen). IsToldFor desk e (told_empty tells)) (sym new ∙ here) (first tells)))
       | inr other ↦
-          subst (IsToldWhereTold desk d) (sym (ap (λ r. r.sent) (others k other)))
+          subst (IsToldFor desk d) (sym (ap (λ r. r.sent) (others k other)))
           (told k d (sym (open_pushed (plain_clients clients) (Some (plain c)) k (λ same. other (same ∙ count))) ∙ now))
     ]
   where
-    first : (tells : Bool) → IsToldWhereTold desk fresh_client (told_empty tells)
+    first : (tells : Bool) → IsToldFor desk fresh_client (told_empty tells)
     first true = told_fresh desk
-    first false = tt
+    first false = ([], told_fresh desk)
 
 -- the bytes sent are the same
 pub same_sent : (desk : List Window) (slot : Option ClientSeen) (was now : Option (List ℕ)) → now ≡ was → IsToldSlot desk slot was → IsToldSlot desk slot now
-same_sent desk slot was now same told = λ c is. subst (IsToldWhereTold desk c) (sym same) (told c is)
+same_sent desk slot was now same told = λ c is. subst (IsToldFor desk c) (sym same) (told c is)
 
 -- of a slot that is empty nothing is kept
 pub told_none : (desk : List Window) (sent : Option (List ℕ)) → IsToldSlot desk None sent
@@ -168,39 +168,40 @@ took_some desk most n sent c (p ∷ packets) are some low told = go (cases_lt (c
         (subst (λ (ps : List Packet). IsTold desk (record c { packets = drop 1 ps; taken = 0 }) (sent ++ take n (offered most c))) (sym are)
         (subst (λ (bs : List ℕ). IsTold desk (record c { packets = packets; taken = 0 }) (sent ++ take n (take most bs))) (sym rest_is) whole))
 
-took_told : (desk : List Window) (most n : ℕ) (was now : Option (List ℕ)) (c : ClientSeen) → n ≤ length (offered most c) → c.packets ≢ [] → now ≡ told_append was (take n (offered most c)) → IsToldWhereTold desk c was
-    → IsToldWhereTold desk (taken_more n c) now
-took_told desk most n None now c low some is told = subst (IsToldWhereTold desk (taken_more n c)) (sym is) tt
-took_told desk most n (Some sent) now c low some is told = subst (IsToldWhereTold desk (taken_more n c)) (sym is) (took_some desk most n sent c c.packets refl some low told)
+took_told : (desk : List Window) (most n : ℕ) (was now : Option (List ℕ)) (c : ClientSeen) → n ≤ length (offered most c) → c.packets ≢ [] → now ≡ told_append was (take n (offered most c)) → IsToldFor desk c was
+    → IsToldFor desk (taken_more n c) now
+took_told desk most n None now c low some is told =
+    subst (IsToldFor desk (taken_more n c)) (sym is) (told.0 ++ take n (offered most c), took_some desk most n told.0 c c.packets refl some low told.1)
+took_told desk most n (Some sent) now c low some is told = subst (IsToldFor desk (taken_more n c)) (sym is) (took_some desk most n sent c c.packets refl some low told)
 
 -- a write that took nothing
-nothing_told : (desk : List Window) (was now : Option (List ℕ)) (c : ClientSeen) → now ≡ told_append was [] → IsToldWhereTold desk c was → IsToldWhereTold desk c now
-nothing_told desk None now c is told = subst (IsToldWhereTold desk c) (sym is) tt
-nothing_told desk (Some sent) now c is told = subst (IsToldWhereTold desk c) (sym (is ∙ ap (λ (bs : List ℕ). Some bs) (append-nil sent))) told
+nothing_told : (desk : List Window) (was now : Option (List ℕ)) (c : ClientSeen) → now ≡ told_append was [] → IsToldFor desk c was → IsToldFor desk c now
+nothing_told desk None now c is told = subst (IsToldFor desk c) (sym is) told
+nothing_told desk (Some sent) now c is told = subst (IsToldFor desk c) (sym (is ∙ ap (λ (bs : List ℕ). Some bs) (append-nil sent))) told
 
-pub writes_told : (desk : List Window) (most : ℕ) (was now : ConnectionRecord) (c c' : ClientSeen) (answer : Sent) → Writes most was now c answer c' → IsToldWhereTold desk c was.sent → IsToldWhereTold desk c' now.sent
+pub writes_told : (desk : List Window) (most : ℕ) (was now : ConnectionRecord) (c c' : ClientSeen) (answer : Sent) → Writes most was now c answer c' → IsToldFor desk c was.sent → IsToldFor desk c' now.sent
 writes_told desk most was now c c' S.Closed writes told = absurd writes
-writes_told desk most was now c c' S.Idle writes told = subst (λ (d : ClientSeen). IsToldWhereTold desk d now.sent) (sym writes.2) (subst (IsToldWhereTold desk c) (sym (ap (λ r. r.sent) writes.1)) told)
+writes_told desk most was now c c' S.Idle writes told = subst (λ (d : ClientSeen). IsToldFor desk d now.sent) (sym writes.2) (subst (IsToldFor desk c) (sym (ap (λ r. r.sent) writes.1)) told)
 writes_told desk most was now c c' (S.Took n) writes told =
-    subst (λ (d : ClientSeen). IsToldWhereTold desk d now.sent) (sym writes.3)
+    subst (λ (d : ClientSeen). IsToldFor desk d now.sent) (sym writes.3)
     (took_told desk most n was.sent now.sent c writes.2.0 writes.1 (ap (λ r. r.sent) writes.2.2) told)
 writes_told desk most was now c c' S.Again writes told =
-    subst (λ (d : ClientSeen). IsToldWhereTold desk d now.sent) (sym writes.2) (nothing_told desk was.sent now.sent c (ap (λ r. r.sent) writes.1.2) told)
+    subst (λ (d : ClientSeen). IsToldFor desk d now.sent) (sym writes.2) (nothing_told desk was.sent now.sent c (ap (λ r. r.sent) writes.1.2) told)
 writes_told desk most was now c c' (S.Ended ended) writes told = absurd writes
 writes_told desk most was now c c' S.NoMemory writes told =
-    subst (λ (d : ClientSeen). IsToldWhereTold desk d now.sent) (sym writes.2) (subst (IsToldWhereTold desk c) (sym (ap (λ r. r.sent) writes.1)) told)
+    subst (λ (d : ClientSeen). IsToldFor desk d now.sent) (sym writes.2) (subst (IsToldFor desk c) (sym (ap (λ r. r.sent) writes.1)) told)
 
 pub slot_written : (desk : List Window) (most : ℕ) (was now : ConnectionRecord) (slot slot' : Option ClientSeen) (answer : Sent) → WritesSlot most was now (option_map plain slot) answer (option_map plain slot')
     → IsToldSlot desk slot was.sent → IsToldSlot desk slot' now.sent
 slot_written desk most was now None slot' answer writes told = λ c is. absurd (cc (sym writes.2 ∙ is))
 slot_written desk most was now (Some c) slot' answer writes told = λ d is.
-    subst (λ (e : ClientSeen). IsToldWhereTold desk e now.sent) (some_same writes.0 d (sym writes.2 ∙ is)) (writes_told desk most was now (plain c) writes.0 answer writes.1 (told (plain c) refl))
+    subst (λ (e : ClientSeen). IsToldFor desk e now.sent) (some_same writes.0 d (sym writes.2 ∙ is)) (writes_told desk most was now (plain c) writes.0 answer writes.1 (told (plain c) refl))
 
 -- a write that failed took nothing
 pub slot_failed : (desk : List Window) (most : ℕ) (was now : ConnectionRecord) (slot slot' : Option ClientSeen) → FailsSlot most was now (option_map plain slot) → option_map plain slot' ≡ option_map plain slot
     → IsToldSlot desk slot was.sent → IsToldSlot desk slot' now.sent
 slot_failed desk most was now None slot' fails same told = absurd fails
-slot_failed desk most was now (Some c) slot' fails same told = λ d is. subst (IsToldWhereTold desk d) (sym (ap (λ r. r.sent) fails.1.1)) (told d (sym same ∙ is))
+slot_failed desk most was now (Some c) slot' fails same told = λ d is. subst (IsToldFor desk d) (sym (ap (λ r. r.sent) fails.1.1)) (told d (sym same ∙ is))
 
 -- a capture
 pub captures_told : (desk : List Window) (window : Window) (sent : List ℕ) (c c' : ClientSeen) (answer : Captured) → IsWindow window → find_window desk window.wid ≡ Some window → CapturesWindow window c answer c'
@@ -212,7 +213,7 @@ captures_told desk window sent c c' (C.Early moment) is found captures told = ab
 captures_told desk window sent c c' (C.Congested load) is found captures told = absurd captures
 captures_told desk window sent c c' (C.Heavy weight) is found captures told = absurd captures
 captures_told desk window sent c c' C.Spent is found captures told = subst (λ (d : ClientSeen). IsTold desk d sent) (sym captures.6) told
-captures_told desk window sent c c' C.NoMemory is found captures told = subst (λ (d : ClientSeen). IsTold desk d sent) (sym captures) told
+captures_told desk window sent c c' C.NoMemory is found captures told = subst (λ (d : ClientSeen). IsTold desk d sent) (sym captures.6) told
 captures_told desk window sent c c' (C.Jobs n) is found captures told =
     let s = captures.1 in
     let low : s.next_sequence < 2 ^ 63 = omega (arith, captures.5) in
@@ -224,15 +225,15 @@ captures_told desk window sent c c' (C.Jobs n) is found captures told =
     greeted false off = absurd (cc (sym (ap (λ ss. position (λ (t : Source). eqb t.wid window.wid) ss) (told.unattached off)) ∙ captures.2.0))
 
 captured_where : (desk : List Window) (window : Window) (sent : Option (List ℕ)) (c c' : ClientSeen) (answer : Captured) → IsWindow window → find_window desk window.wid ≡ Some window → CapturesWindow window c answer c'
-    → IsToldWhereTold desk c sent → IsToldWhereTold desk c' sent
-captured_where desk window None c c' answer is found captures told = tt
+    → IsToldFor desk c sent → IsToldFor desk c' sent
+captured_where desk window None c c' answer is found captures told = (told.0, captures_told desk window told.0 c c' answer is found captures told.1)
 captured_where desk window (Some sent) c c' answer is found captures told = captures_told desk window sent c c' answer is found captures told
 
 pub slot_captured : (desk : List Window) (window : Window) (sent : Option (List ℕ)) (slot slot' : Option ClientSeen) (answer : Captured) → IsWindow window → find_window desk window.wid ≡ Some window
     → CapturesSlot window (option_map plain slot) answer (option_map plain slot') → IsToldSlot desk slot sent → IsToldSlot desk slot' sent
 slot_captured desk window sent None slot' answer is found captures told = λ c now. absurd (cc (sym captures.1 ∙ now))
 slot_captured desk window sent (Some c) slot' answer is found captures told = λ d now.
-    subst (λ (e : ClientSeen). IsToldWhereTold desk e sent) (some_same captures.0 d (sym captures.2 ∙ now))
+    subst (λ (e : ClientSeen). IsToldFor desk e sent) (some_same captures.0 d (sym captures.2 ∙ now))
     (captured_where desk window sent (plain c) captures.0 answer is found captures.1 (told (plain c) refl))
 
 -- so many maps
@@ -258,29 +259,29 @@ hears_told lines desk sent bytes c c' is hears told = go c.greeted refl hears
     go true on hears = hears_maps lines desk sent (c.unread ++ bytes) c c' hears told
     go false off hears = hears_first lines desk sent (c.unread ++ bytes) c c' is off hears told
 
-heard_where : (lines : List Paint) (desk : List Window) (sent : Option (List ℕ)) (bytes : List ℕ) (c c' : ClientSeen) → IsDesktop desk → Hears lines desk c bytes c' → IsToldWhereTold desk c sent → IsToldWhereTold desk c' sent
-heard_where lines desk None bytes c c' is hears told = tt
+heard_where : (lines : List Paint) (desk : List Window) (sent : Option (List ℕ)) (bytes : List ℕ) (c c' : ClientSeen) → IsDesktop desk → Hears lines desk c bytes c' → IsToldFor desk c sent → IsToldFor desk c' sent
+heard_where lines desk None bytes c c' is hears told = (told.0, hears_told lines desk told.0 bytes c c' is hears told.1)
 heard_where lines desk (Some sent) bytes c c' is hears told = hears_told lines desk sent bytes c c' is hears told
 
 pub slot_heard : (lines : List Paint) (desk : List Window) (sent : Option (List ℕ)) (bytes : List ℕ) (slot slot' : Option ClientSeen) → IsDesktop desk → HearsSlot lines desk (option_map plain slot) bytes (option_map plain slot')
     → IsToldSlot desk slot sent → IsToldSlot desk slot' sent
 slot_heard lines desk sent bytes None slot' is hears told = λ c now. absurd (cc (sym hears ∙ now))
 slot_heard lines desk sent bytes (Some c) slot' is hears told = λ d now.
-    subst (λ (e : ClientSeen). IsToldWhereTold desk e sent) (some_same hears.0 d (sym hears.2 ∙ now)) (heard_where lines desk sent bytes (plain c) hears.0 is hears.1 (told (plain c) refl))
+    subst (λ (e : ClientSeen). IsToldFor desk e sent) (some_same hears.0 d (sym hears.2 ∙ now)) (heard_where lines desk sent bytes (plain c) hears.0 is hears.1 (told (plain c) refl))
 
 -- a client that heard what is not built
 no_more_told : (desk : List Window) (sent : List ℕ) (c c' : ClientSeen) → IsDesktop desk → HearsNoMore desk c c' → IsTold desk c sent → IsTold desk c' sent
 no_more_told desk sent c c' is (maps, unread, inl same) told = subst (λ (d : ClientSeen). IsTold desk d sent) (sym same) (told_read desk c sent maps unread told)
 no_more_told desk sent c c' is (maps, unread, inr new) told = subst (λ (d : ClientSeen). IsTold desk d sent) (sym new.1) (told_attached desk c sent maps unread is new.0 told)
 
-no_more_where : (desk : List Window) (sent : Option (List ℕ)) (c c' : ClientSeen) → IsDesktop desk → HearsNoMore desk c c' → IsToldWhereTold desk c sent → IsToldWhereTold desk c' sent
-no_more_where desk None c c' is hears told = tt
+no_more_where : (desk : List Window) (sent : Option (List ℕ)) (c c' : ClientSeen) → IsDesktop desk → HearsNoMore desk c c' → IsToldFor desk c sent → IsToldFor desk c' sent
+no_more_where desk None c c' is hears told = (told.0, no_more_told desk told.0 c c' is hears told.1)
 no_more_where desk (Some sent) c c' is hears told = no_more_told desk sent c c' is hears told
 
 pub slot_no_more : (desk : List Window) (sent : Option (List ℕ)) (slot slot' : Option ClientSeen) → IsDesktop desk → HearsNoMoreSlot desk (option_map plain slot) (option_map plain slot') → IsToldSlot desk slot sent → IsToldSlot desk slot' sent
 slot_no_more desk sent None slot' is hears told = λ c now. absurd (cc (sym hears ∙ now))
 slot_no_more desk sent (Some c) slot' is hears told = λ d now.
-    subst (λ (e : ClientSeen). IsToldWhereTold desk e sent) (some_same hears.0 d (sym hears.2 ∙ now)) (no_more_where desk sent (plain c) hears.0 is hears.1 (told (plain c) refl))
+    subst (λ (e : ClientSeen). IsToldFor desk e sent) (some_same hears.0 d (sym hears.2 ∙ now)) (no_more_where desk sent (plain c) hears.0 is hears.1 (told (plain c) refl))
 
 -- a session that has no connection yet
 pub nobody_told : (connection : ℕ → ConnectionRecord) (desk : List Window) (clients : List (Option ClientSeen)) → clients ≡ [] → AreTold connection desk (plain_clients clients)
@@ -296,7 +297,7 @@ pub told_others : (connection connection' : ℕ → ConnectionRecord) (desk : Li
     → AreTold connection desk (plain_clients clients) → AreTold connection' desk (plain_clients clients)
 told_others connection connection' desk clients count known others told = λ k c is.
     let other : k ≢ count = omega (arith, open_within (plain_clients clients) k c is, length-map clients (option_map plain), known) in
-    subst (IsToldWhereTold desk c) (sym (ap (λ r. r.sent) (others k other))) (told k c is)
+    subst (IsToldFor desk c) (sym (ap (λ r. r.sent) (others k other))) (told k c is)
 
 -- nothing that is kept changed, and the provider tells the same bytes on what it handed out
 pub steady_same : {connection : ℕ → ConnectionRecord} {lines : List Paint} {place : ℕ} {desk : List Window} {clients : List (Option ClientSeen)} {ends : List End} {count : ℕ}

@@ -293,7 +293,7 @@ told_captured desk c sent window place s greeted is low found at there told = re
   show = told.show;
   sized = told.sized;
   carried = carry_push c.packets told.messages (window_draw window s) (draws_whole window s.next_sequence) told.carried
-      (record { message = draws_message window s.next_sequence is low; draw = (refl, refl, refl); built = tt });
+      (record { message = draws_message window s.next_sequence is low; draw = (refl, refl, refl, refl); built = tt });
   part = taken_push c.packets (window_draw window s) c.taken (draw_some window s.next_sequence) told.part;
   empty = told.empty;
   unattached = λ none. absurd (cc (none, greeted));

@@ -127,10 +127,15 @@ pub why_failed : (was now : ConnectionRecord) (lines : List Paint) (desk : List 
 why_failed was now lines desk None some gives = absurd (some refl)
 why_failed was now lines desk (Some c) some gives = (refl, inr (inl gives))
 
-pub why_short : (was now : ConnectionRecord) (lines : List Paint) (desk : List Window) (slot : Option ClientSeen) (bytes : List ℕ) (gave : Gave) → slot ≢ None → ReadGives was now [] bytes 4096 gave
+pub why_short : (was now : ConnectionRecord) (lines : List Paint) (desk : List Window) (slot : Option ClientSeen) (bytes : List ℕ) (n : ℕ) → slot ≢ None → ReadGives was now [] bytes 4096 (G.Bytes n)
     → EndsSlot was now lines desk (option_map plain slot) R.NoMemory
-why_short was now lines desk None bytes gave some gives = absurd (some refl)
-why_short was now lines desk (Some c) bytes gave some gives = (bytes, gave, gives)
+why_short was now lines desk None bytes n some gives = absurd (some refl)
+why_short was now lines desk (Some c) bytes n some gives = inr (bytes, n, gives)
+
+pub why_unread : (was now : ConnectionRecord) (lines : List Paint) (desk : List Window) (slot : Option ClientSeen) → slot ≢ None → ReadGives was now [] [] 4096 G.NoMemory
+    → EndsSlot was now lines desk (option_map plain slot) R.NoMemory
+why_unread was now lines desk None some gives = absurd (some refl)
+why_unread was now lines desk (Some c) some gives = inl gives
 
 pub receives_ended : {B : Type 0} (connection : B → ℕ → ConnectionRecord) (lines : List Paint) (place : ℕ) (desk : List Window) (ends : List End) (clients : List (Option ClientSeen)) (bay bay' : B) (new : Seen B)
     (k : ℕ) (e : End) (answer : Received) (cs : List (Option ClientSeen)) (slot : Option ClientSeen) → k < length clients → slot ≡ get_or clients k slot → receive_ends answer ≡ Some e

@@ -21,7 +21,8 @@ CapturesWindow window c (C.Congested load) c' = ⊥
 CapturesWindow window c (C.Heavy weight) c' = ⊥
 CapturesWindow window c C.Spent c' = (place : ℕ) × (s : Source) × HasSource window.wid c place s
     × (s.mapped ≡ true) × (HasNone s.pending → ⊥) × (2 ^ 62 ≤ s.next_sequence) × (c' ≡ c)
-CapturesWindow window c C.NoMemory c' = c' ≡ c
+CapturesWindow window c C.NoMemory c' = (place : ℕ) × (s : Source) × HasSource window.wid c place s
+    × (s.mapped ≡ true) × (HasNone s.pending → ⊥) × (s.next_sequence < 2 ^ 62) × (c' ≡ c)
 CapturesWindow window c (C.Jobs n) c' = (place : ℕ) × (s : Source) × HasSource window.wid c place s
     × (s.mapped ≡ true) × (HasNone s.pending → ⊥) × (s.next_sequence < 2 ^ 62) × (n ≡ 1) × (c' ≡ captured window place s c)
 

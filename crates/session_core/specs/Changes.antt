@@ -13,12 +13,12 @@ use Rattle.session_core.specs.declared.packet.Packet.{Packet}
 use Rattle.session_core.specs.declared.source.Source.{Source}
 use Rattle.session_core.specs.declared.geometry.Geometry.{Geometry}
 use Rattle.session_core.specs.Clients.{ClientSeen, fresh_client, attached, announced, damaged, captured}
-use Rattle.session_core.specs.Owed.{draw_relieves, client_owes}
+use Rattle.session_core.specs.Owed.{source_owes, draw_relieves, client_owes}
 use Rattle.session_core.specs.Hearing.{Hears, after_maps}
 use Rattle.session_core.specs.Sending.{Writes}
 use Rattle.session_core.specs.Capturing.{HasSource, CapturesWindow}
 use Rattle.session_core.specs.Steps.{painted_client}
-use Rattle.session_core.specs.Told.{IsTold, IsToldWhereTold}
+use Rattle.session_core.specs.Told.{IsTold, IsToldFor}
 
 -- a paint line, a read, a capture and a write keep of a client that each differing pixel is owed
 abbrev pub PaintKeeps : Type 0
@@ -34,7 +34,7 @@ CaptureKeeps = (desk : List Window) (window : Window) (sent : List ℕ) (c c' : 
 
 abbrev pub WriteKeeps : Type 0
 WriteKeeps = (desk : List Window) (most : ℕ) (was now : ConnectionRecord) (c c' : ClientSeen) (answer : Sent) → Writes most was now c answer c'
-    → IsToldWhereTold desk c was.sent → IsToldWhereTold desk c' now.sent
+    → IsToldFor desk c was.sent → IsToldFor desk c' now.sent
 
 -- the desktop has the point
 abbrev pub on_desk : List Window → ℕ → ℕ → ℕ → Bool
@@ -61,14 +61,19 @@ MapsOwe = (window : Option Geometry) (count : ℕ) (rest : List ℕ) (c : Client
 abbrev pub CaptureOwes : Type 0
 CaptureOwes = (window : Window) (place : ℕ) (s : Source) (c : ClientSeen) (wid x y : ℕ) → HasSource window.wid c place s → client_owes wid x y (captured window place s c) ≡ client_owes wid x y c
 
--- the first packet was wholly written: what was owed, without the points that stood in its relief and in nothing else
+-- what is owed but for the first packet: a point is to be captured, or a draw behind the first repairs it
+abbrev pub owes_behind : ℕ → ℕ → ℕ → ClientSeen → Bool
+owes_behind wid x y c = list_any (λ s. source_owes wid x y s) c.sources || list_any (λ (p : Packet). draw_relieves wid x y p.draw) (drop 1 c.packets)
+
 abbrev pub front_relieves : List Packet → ℕ → ℕ → ℕ → Bool
 front_relieves [] wid x y = false
 front_relieves (p ∷ packets) wid x y = draw_relieves wid x y p.draw
 
+-- the first packet was wholly written: what was owed, but for the points in its relief, which are owed where something else
+-- owes them
 abbrev pub WriteOwes : Type 0
 WriteOwes = (c : ClientSeen) (wid x y : ℕ) → client_owes wid x y (record c { packets = drop 1 c.packets; taken = 0 })
-    ≡ (client_owes wid x y c && not (front_relieves c.packets wid x y && not (client_owes wid x y (record c { packets = drop 1 c.packets; taken = 0 }))))
+    ≡ (if front_relieves c.packets wid x y then owes_behind wid x y c else client_owes wid x y c)
 
 -- a connection that was just accepted is owed nothing
 abbrev pub FreshOwes : Type 0

@@ -31,4 +31,5 @@ EndsReading was now lines desk c (R.Took n) = ⊥
 EndsReading was now lines desk c R.Again = ⊥
 EndsReading was now lines desk c (R.Ended ended) = (ended ≡ end.Unbuilt)
     × (ReadGives was now [] [] 4096 G.End ⊎ ReadGives was now [] [] 4096 G.Failed ⊎ ReadsUnbuilt was now lines desk c)
-EndsReading was now lines desk c R.NoMemory = (bytes : List ℕ) × (gave : Gave) × ReadGives was now [] bytes 4096 gave
+EndsReading was now lines desk c R.NoMemory = ReadGives was now [] [] 4096 G.NoMemory
+    ⊎ (bytes : List ℕ) × (n : ℕ) × ReadGives was now [] bytes 4096 (G.Bytes n)

@@ -40,7 +40,7 @@ after_paint line old = record old { place = old.place + 1; desk = painted old.de
 abbrev pub Paints : {B : Type 0} → Seen B → Painted → Seen B → Type 0
 Paints old P.Done new = (line : Paint) × (slice_get old.lines old.place ≡ Some line) × (new ≡ after_paint line old)
 Paints old P.Finished new = (slice_get old.lines old.place ≡ None) × (new ≡ old)
-Paints old P.NoMemory new = new ≡ old
+Paints old P.NoMemory new = (line : Paint) × (slice_get old.lines old.place ≡ Some line) × (new ≡ old)
 
 -- an accept: full exactly where as many are open as may be; then the provider is not asked
 abbrev pub Accepts : {B : Type 0} → (B → ProviderRecord) → (B → ℕ → ConnectionRecord) → Bool → Seen B → Accepted → Seen B → Type 0

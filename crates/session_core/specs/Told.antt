@@ -1,6 +1,6 @@
--- What a session keeps of a client and the bytes sent to it: where they are told, each pixel in which the client's
--- picture differs from the desktop is owed.
-use Rattle.std.specs.Prelude.{ℕ, ◌≡◌, ◌*◌, true, false, Option, Some, None, List, [], ◌∷◌, ◌++◌, length, map, take, All}
+-- What a session keeps of a client and the bytes sent to it: each pixel in which the client's picture of these bytes
+-- differs from the desktop is owed.
+use Rattle.std.specs.Prelude.{ℕ, pos, ◌≡◌, ◌*◌, true, false, Option, Some, None, List, [], ◌∷◌, ◌++◌, length, map, take, All}
 use Rattle.window_model.specs.Desktop.{Window, find_window, has_window}
 use Rattle.delivery_model.specs.Kept.{IsKept}
 use Rattle.packet_kinds.specs.declared.to_client.ToClient.{ToClient}
@@ -22,7 +22,7 @@ use Rattle.session_core.specs.Delivery.{rules, waiting_on, find_source, delivery
 abbrev pub IsDrawOf : Option Draw → ToClient → Type 0
 IsDrawOf None (T.Draw wid x y w h coding bytes sequence stride) = ⊥
 IsDrawOf (Some d) (T.Draw wid x y w h coding bytes sequence stride) =
-    (d.wid ≡ wid) × (d.rect ≡ record { x = x; y = y; w = w; h = h }) × (d.coding ≡ coding)
+    (d.wid ≡ wid) × (d.rect ≡ record { x = x; y = y; w = w; h = h }) × (d.coding ≡ coding) × (sequence ≡ pos d.sequence)
 IsDrawOf None m = Unit {0}
 IsDrawOf (Some d) m = ⊥
 
@@ -107,11 +107,11 @@ pub record IsTold (desk : List Window) (c : ClientSeen) (sent : List ℕ) : Type
   pub unspoken : c.greeted ≡ false → c.packets ≡ []
   pub delivered : c.greeted ≡ true → IsDelivered desk c.sources c.packets windows messages
 
--- the same where the provider tells the bytes sent
-abbrev pub IsToldWhereTold : List Window → ClientSeen → Option (List ℕ) → Type 0
-IsToldWhereTold desk c None = Unit {0}
-IsToldWhereTold desk c (Some sent) = IsTold desk c sent
+-- the same of the bytes that the provider tells; where it tells none, of some bytes
+abbrev pub IsToldFor : List Window → ClientSeen → Option (List ℕ) → Type 0
+IsToldFor desk c None = (sent : List ℕ) × IsTold desk c sent
+IsToldFor desk c (Some sent) = IsTold desk c sent
 
 -- the same of every connection that is open
 abbrev pub AreTold : (ℕ → ConnectionRecord) → List Window → List (Option ClientSeen) → Type 0
-AreTold connection desk clients = (k : ℕ) (c : ClientSeen) → open_client clients k ≡ Some c → IsToldWhereTold desk c (connection k).sent
+AreTold connection desk clients = (k : ℕ) (c : ClientSeen) → open_client clients k ≡ Some c → IsToldFor desk c (connection k).sent

@@ -14,6 +14,7 @@ use xp_base::{Conn, Wid};
 impl<B: Bay + Drop> Session<B> {
     ghost use Rattle.session_core.specs.Owed.{owes};
     ghost use Rattle.session_core.specs.Shown.{IsAttached, Differs, shows};
+    ghost use Rattle.session_core.specs.Changes.{on_desk};
 
     /// Whether the client is attached, has the window, the point is in it, and it is owed: it is to be
     /// captured, or a draw that waits repairs it.
@@ -21,6 +22,7 @@ impl<B: Bay + Drop> Session<B> {
     /// these bytes, differs from the desktop is owed.
     pub fn owes(&self, c: Conn, wid: Wid, x: u32, y: u32) -> bool
         ensures value { result ≡ owes self.now c.0 wid x y }
+        ensures means { result ≡ true → IsAttached self.now.clients c.0 × (on_desk self.now.desk wid x y ≡ true) }
         ensures differs { (sent : List ℕ) → (B.connection self.now.bay c.0).sent ≡ Some sent → IsAttached self.now.clients c.0 → Differs self.now.desk (shows sent) wid x y → result ≡ true }
     {
         let _count = self.desk.len();

@@ -51,6 +51,7 @@ impl<B: Bay + Drop> Session<B> {
     ghost use Rattle.session_core.specs.State.{Seen, IsSession};
     ghost use Rattle.session_core.specs.Told.{AreTold};
     ghost use Rattle.std.specs.Prelude.{MatchResult};
+    ghost use Rattle.window_model.specs.Desktop.{IsDesktop};
 
     /// A session before its first paint line. `Err` is want of memory, and hands the provider back.
     pub fn new(alloc: Global, paints: Paints, bay: B) -> Result<Session<B>, B>
@@ -84,7 +85,9 @@ impl<B: Bay + Drop> Session<B> {
         ensures value { IsTrue result ↔ (length self.now.lines ≤ self.now.place) }
         ensures kept { IsSession self.now.lines self.now.place self.now.desk self.now.clients self.now.ends (B.provider self.now.bay).count }
         ensures told { AreTold (B.connection self.now.bay) self.now.desk self.now.clients }
+        ensures desktop { IsDesktop self.now.desk }
     {
+        let _count = self.desk.len();
         self.place >= self.paints.len()
     }
 }

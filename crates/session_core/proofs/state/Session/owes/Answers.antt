@@ -1,8 +1,10 @@
-use Rattle.std.proofs.Common.{◌≡◌, ◌∙◌, ℕ, List, Some, true}
+use Rattle.std.proofs.Common.{◌≡◌, ◌∙◌, sym, ℕ, List, Some, true}
 use Rattle.session_core.specs.Clients.{plain_clients}
 use Rattle.session_core.specs.Owed.{owes}
 use Rattle.session_core.specs.Shown.{shows, Differs, IsAttached}
+use Rattle.session_core.specs.Changes.{on_desk}
 use Rattle.session_core.proofs.Shown.{attached_owes}
+use Rattle.session_core.proofs.Owned.{owed_lies}
 use Rattle.session_core.proofs.state.Session.owes.Goals as goal
 
 pub returns-clause-differs : goal.returns-clause-differs
@@ -12,3 +14,10 @@ returns-clause-differs g c =
     rw (← c.self.view_is) (λ sent bytes attached differs.
     attached_owes (g.B.Bay.connection c.self.inside.bay) c.self.inside.desk (plain_clients c.self.inside.clients.items) c.args.c.0 c.args.wid c.args.x c.args.y sent c.self.invariant.told c.len-count.ensures.kept bytes attached differs) in
     λ sent bytes attached differs. c.is_owed.ensures ∙ owed sent bytes attached differs
+
+pub returns-clause-means : goal.returns-clause-means
+returns-clause-means g c =
+    let lies : owes c.args.self.now c.args.c.0 c.args.wid c.args.x c.args.y ≡ true → IsAttached c.args.self.now.clients c.args.c.0 × (on_desk c.args.self.now.desk c.args.wid c.args.x c.args.y ≡ true) =
+    rw (← c.self.view_is) (λ owed.
+    owed_lies (g.B.Bay.connection c.self.inside.bay) c.self.inside.desk (plain_clients c.self.inside.clients.items) c.args.c.0 c.args.wid c.args.x c.args.y c.self.invariant.told c.len-count.ensures.kept owed) in
+    λ on. lies (sym c.is_owed.ensures ∙ on)

@@ -10,7 +10,7 @@ use Rattle.session_core.specs.State.{open_client}
 use Rattle.link_bay.specs.Connections.{ConnectionRecord}
 use Rattle.session_core.proofs.Lives.{session_slot, clients_gone}
 use Rattle.session_core.proofs.Steadies.{told_slot, told_here, same_sent, slot_heard, slot_no_more}
-use Rattle.session_core.proofs.Writings.{receives_took, receives_again, receives_ended, slot_some, open_some, why_unbuilt, why_end, why_failed, why_short}
+use Rattle.session_core.proofs.Writings.{receives_took, receives_again, receives_ended, slot_some, open_some, why_unbuilt, why_end, why_failed, why_short, why_unread}
 use Rattle.session_core.proofs.state.Session.receive.Goals as goal
 
 pub invariant_of-self : goal.invariant_of-self
@@ -68,7 +68,7 @@ returns-in-Bytes-clause-answer g c =
     let some : IsSome (open_client c.self.inside.clients.items c.args.c.0) = subst (λ (xs : List (Option ClientSeen)). IsSome (open_client xs c.args.c.0)) c.deref.ensures.value (c.if-not-is_open.ensures.open.0 refl) in
     let filled = slot_some c.self.inside.clients.items c.args.c.0 c.index_mut-slot.result.now within c.index_mut-slot.ensures.value some in
     let gives = subst (λ (xs : List ℕ). ReadGives (g.B.Bay.connection c.self.inside.bay c.args.c.0) (g.B.Bay.connection c.read.new.self c.args.c.0) xs c.read.new.into.items 4096 (G.Bytes c.in-Bytes.count)) c.new-bytes.ensures.items c.in-Bytes.ensures.answer in
-    let why = why_short _ _ c.self.inside.paints c.self.inside.desk c.index_mut-slot.result.now c.read.new.into.items (G.Bytes c.in-Bytes.count) filled gives in
+    let why = why_short _ _ c.self.inside.paints c.self.inside.desk c.index_mut-slot.result.now c.read.new.into.items c.in-Bytes.count filled gives in
     rw (← c.self.view_is, c.end_short.ensures.answer) (receives_ended g.B.Bay.connection _ _ c.self.inside.desk _ c.self.inside.clients.items c.self.inside.bay c.read.new.self c.end_short.new.self c.args.c.0 end.Short R.NoMemory (plain_clients (set c.self.inside.clients.items c.args.c.0 c.hear_slot-heard.new.slot)) c.index_mut-slot.result.now within c.index_mut-slot.ensures.value refl why
     (c.end_short.ensures.connections c.args.c.0) (clients_gone c.self.inside.clients.items c.args.c.0 c.hear_slot-heard.new.slot) c.end_short.ensures.session)
 
@@ -101,7 +101,7 @@ returns-clause-answer g c =
     let stands = open_some c.self.inside.clients.items c.args.c.0 some in
     let filled = slot_some c.self.inside.clients.items c.args.c.0 (Some stands.0) within stands.1 some in
     let gives = c.in-NoMemory.ensures.answer in
-    let why = why_short (g.B.Bay.connection c.self.inside.bay c.args.c.0) (g.B.Bay.connection c.read.new.self c.args.c.0) c.self.inside.paints c.self.inside.desk (Some stands.0) [] G.NoMemory filled (refl, gives.1) in
+    let why = why_unread (g.B.Bay.connection c.self.inside.bay c.args.c.0) (g.B.Bay.connection c.read.new.self c.args.c.0) c.self.inside.paints c.self.inside.desk (Some stands.0) filled (refl, gives.1) in
     rw (← c.self.view_is, c.end_short-in-NoMemory.ensures.answer) (receives_ended g.B.Bay.connection _ _ c.self.inside.desk _ c.self.inside.clients.items c.self.inside.bay c.read.new.self c.end_short-in-NoMemory.new.self c.args.c.0 end.Short R.NoMemory (plain_clients c.self.inside.clients.items) (Some stands.0) within stands.1 refl why
     (c.end_short-in-NoMemory.ensures.connections c.args.c.0) refl c.end_short-in-NoMemory.ensures.session)
 
