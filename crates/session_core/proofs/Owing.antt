@@ -1,6 +1,6 @@
 -- How each step changes what a client is owed.
-use Rattle.std.proofs.Common.{◌≡◌, ◌≢◌, ◌⊎◌, inl, inr, ℕ, pos, zero, suc, ◌+◌, ◌<◌, Bool, true, false, not, ◌&&◌, ◌||◌, List, [], ◌∷◌, ◌++◌, Option, Some, None, length, map, get_or, set, drop, cond, eqb, refl, sym, ap, ◌∙◌, subst, arith}
-use Rattle.std.specs.Prelude.{All, AllPairs, position, slice_get, nat_lt, is_some, if◌then◌else◌}
+use Rattle.std.proofs.Common.{◌≡◌, ◌≢◌, ◌⊎◌, inl, inr, ℕ, pos, zero, suc, ◌+◌, ◌<◌, Bool, true, false, ◌&&◌, ◌||◌, List, [], ◌∷◌, ◌++◌, Option, Some, None, length, map, get_or, set, drop, cond, eqb, refl, sym, ap, ◌∙◌, arith}
+use Rattle.std.specs.Prelude.{All, AllPairs, nat_lt, is_some, if◌then◌else◌}
 use Rattle.std.proofs.lemmas.List.Elements.{All-head, All-tail}
 use Rattle.std.specs.List.{list_any}
 use Rattle.std.proofs.lemmas.Bool.{cases_Bool, eqb-true, eq-eqb, cond-true, cond-false}
@@ -9,27 +9,28 @@ use Rattle.std.proofs.lemmas.List.Folds.{list_any-append}
 use Rattle.std.proofs.lemmas.List.Quantifiers.{position-Some}
 use Rattle.std.proofs.lemmas.Option.{slice_get-get_or}
 use Rattle.xp_base.specs.Points.{Rectangle, is_in, is_within}
-use Rattle.window_model.specs.Desktop.{Window, IsDesktop, find_window}
+use Rattle.window_model.specs.Desktop.{Window, find_window}
 use Rattle.session_core.specs.Delivery.{find_source}
-use Rattle.session_core.specs.Told.{AreSources, IsDelivered, IsTold}
+use Rattle.session_core.specs.Told.{AreSources, IsDelivered}
 use Rattle.std.specs.Option.{option_map}
 use Rattle.std.proofs.Math.ListN.{get_or-map}
 use Rattle.std.proofs.lemmas.List.{length-map}
-use Rattle.session_core.specs.PointSets.{PointSet, IsPointSet, has, whole_set, with_rectangle}
+use Rattle.session_core.specs.PointSets.{IsPointSet, has, whole_set, with_rectangle}
 use Rattle.session_core.specs.declared.packet.Packet.{Packet}
 use Rattle.session_core.specs.declared.source.Source.{Source}
 use Rattle.session_core.specs.declared.geometry.Geometry.{Geometry}
-use Rattle.session_core.specs.Wire.{geometry_of, new_window, server_hello}
-use Rattle.session_core.specs.Clients.{ClientSeen, fresh_client, fresh_source, structure_packet, mapped_source, damaged_source, announced, window_draw}
+use Rattle.session_core.specs.Wire.{geometry_of, new_window}
+use Rattle.session_core.specs.Clients.{fresh_source, structure_packet, mapped_source, damaged_source, window_draw}
 use Rattle.session_core.specs.Owed.{draw_relieves, source_owes, client_owes}
-use Rattle.session_core.specs.Hearing.{after_maps, mapped_sources}
-use Rattle.session_core.specs.Capturing.{HasSource}
-use Rattle.session_core.specs.Changes.{on_desk, front_relieves, FillOwes, OpenOwes, AttachOwes, MapsOwe, CaptureOwes, WriteOwes, FreshOwes}
+use Rattle.session_core.specs.Changes.{on_desk, front_relieves, FillOwes, OpenOwes, AttachOwes, MapsOwe, CaptureOwes, WriteOwes, FreshOwes, PartsOwe}
 use Rattle.session_core.proofs.Marked.{has_marked, has_all}
 use Rattle.session_core.proofs.Sources.{some_same, found_one, find_source-map, numbers-map, source_where}
 
 pub fresh_owes : FreshOwes
 fresh_owes wid x y = refl
+
+pub parts_owe : PartsOwe
+parts_owe c maps taken unread wid x y = refl
 
 pub write_owes : WriteOwes
 write_owes c wid x y = go c.packets

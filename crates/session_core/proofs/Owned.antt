@@ -4,7 +4,7 @@ use Rattle.std.specs.Prelude.{All, IsSomeAnd, is_some}
 use Rattle.std.specs.List.{list_any}
 use Rattle.std.proofs.lemmas.List.Elements.{All-head, All-tail}
 use Rattle.link_bay.specs.Connections.{ConnectionRecord}
-use Rattle.window_model.specs.Desktop.{Window, IsDesktop, find_window, has_window}
+use Rattle.window_model.specs.Desktop.{Window, IsDesktop, find_window}
 use Rattle.xp_base.specs.Points.{is_within}
 use Rattle.delivery_model.specs.Window.{Packet as Waiting, NewWindow, WindowResized, Draws}
 use Rattle.delivery_model.specs.Kept.{PacketFits}
@@ -18,7 +18,7 @@ use Rattle.session_core.specs.State.{open_client}
 use Rattle.session_core.specs.Owed.{draw_relieves, source_owes, client_owes, slot_owes}
 use Rattle.session_core.specs.Changes.{on_desk}
 use Rattle.session_core.specs.Delivery.{waiting_on, find_source}
-use Rattle.session_core.specs.Told.{CarryAll, IsDelivered, IsTold, IsToldFor, AreTold}
+use Rattle.session_core.specs.Told.{IsDelivered, IsTold, IsToldFor, AreTold}
 use Rattle.session_core.specs.Shown.{IsAttached}
 use Rattle.session_core.proofs.Sources.{source_where}
 use Rattle.session_core.proofs.Shown.{relieves_as}

@@ -22,7 +22,6 @@ use Rattle.session_core.specs.Capturing.{CapturesWindow, CapturesSlot}
 use Rattle.session_core.specs.Steps.{Sends, SendsOne, Receives, ReceivesOne, Captures, CapturesOne, send_ends, receive_ends, with_client, with_end}
 use Rattle.std.proofs.lemmas.List.{set-get_or, get_or_default}
 use Rattle.link_bay.specs.Answers.{ReadGives}
-use Rattle.link_bay.specs.declared.bay.Gave.{Gave}
 use Rattle.link_bay.specs.declared.bay.Gave.TheVariants as G
 use Rattle.session_core.proofs.Slots.{get_or-plain}
 use Rattle.session_core.proofs.Lives.{open_at, clients_now, clients_gone}

@@ -1,5 +1,5 @@
 -- What each step keeps of a client, and how it changes what the client is owed. This project's own.
-use Rattle.std.specs.Prelude.{ℕ, ◌≡◌, ◌<◌, ◌^◌, ◌==◌, Bool, true, false, not, ◌&&◌, ◌||◌, if◌then◌else◌, Option, Some, List, [], ◌∷◌, drop, position, slice_get}
+use Rattle.std.specs.Prelude.{ℕ, ◌≡◌, ◌==◌, Bool, true, false, ◌&&◌, ◌||◌, if◌then◌else◌, Option, Some, List, [], ◌∷◌, drop}
 use Rattle.std.specs.List.{list_any}
 use Rattle.xp_base.specs.Points.{Rectangle, is_in, is_within}
 use Rattle.link_bay.specs.Connections.{ConnectionRecord}
@@ -78,3 +78,7 @@ WriteOwes = (c : ClientSeen) (wid x y : ℕ) → client_owes wid x y (record c {
 -- a connection that was just accepted is owed nothing
 abbrev pub FreshOwes : Type 0
 FreshOwes = (wid x y : ℕ) → client_owes wid x y fresh_client ≡ false
+
+-- bytes that are no whole packet yet, read or written: as before
+abbrev pub PartsOwe : Type 0
+PartsOwe = (c : ClientSeen) (maps taken : ℕ) (unread : List ℕ) (wid x y : ℕ) → client_owes wid x y (record c { maps = maps; taken = taken; unread = unread }) ≡ client_owes wid x y c

@@ -2,7 +2,6 @@
 use Rattle.std.specs.Prelude.{ℕ, ◌≡◌, ◌⊎◌, List, []}
 use Rattle.link_bay.specs.Connections.{ConnectionRecord}
 use Rattle.link_bay.specs.Answers.{ReadGives}
-use Rattle.link_bay.specs.declared.bay.Gave.{Gave}
 use Rattle.link_bay.specs.declared.bay.Gave.TheVariants as G
 use Rattle.window_model.specs.Desktop.{Window}
 use Rattle.paint_script.specs.declared.paint.Paint.{Paint}

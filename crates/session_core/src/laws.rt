@@ -15,6 +15,7 @@ ghost use Rattle.session_core.specs.Changes.{
   CaptureOwes,
   WriteOwes,
   FreshOwes,
+  PartsOwe,
 };
 ghost use Rattle.session_core.specs.Shown.{OwesWhatDiffers, WillShowTheDesktop, WindowsAreSteady};
 ghost use Rattle.session_core.specs.Told.{IsTold};
@@ -63,7 +64,8 @@ pub fn each_step_keeps_what_is_told()
 
 /// How each step changes what a client is owed. A fill adds its rectangle, a new window its whole, and an accepted
 /// hello makes the whole of each window of the desktop owed; maps and captures change nothing; a packet that was
-/// wholly written takes the points away that stood in its relief and in nothing else.
+/// wholly written leaves a point of its relief owed exactly where something else owes it. Bytes that were read, or
+/// written of a packet in part, change nothing.
 pub fn each_step_changes_owed_so()
     ensures fill { FillOwes }
     ensures opening { OpenOwes }
@@ -72,4 +74,5 @@ pub fn each_step_changes_owed_so()
     ensures capture { CaptureOwes }
     ensures write { WriteOwes }
     ensures fresh { FreshOwes }
+    ensures parts { PartsOwe }
 {}

@@ -3,7 +3,7 @@ use crate::points::Points;
 use crate::source::Source;
 use xp_base::{Bytes, Coding, Rect, Wid};
 
-/// A packet that waits to be written; its bytes are not empty.
+/// A packet that waits to be written. In a session its bytes are not empty.
 #[derive(Debug, Drop)]
 pub struct Packet {
     pub bytes: Bytes,

@@ -1,4 +1,4 @@
-use Rattle.session_core.proofs.Owing.{fill_owes, open_owes, attach_owes, maps_owe, capture_owes, write_owes, fresh_owes}
+use Rattle.session_core.proofs.Owing.{fill_owes, open_owes, attach_owes, maps_owe, capture_owes, write_owes, fresh_owes, parts_owe}
 use Rattle.session_core.proofs.laws.each_step_changes_owed_so.Goals as goal
 
 pub returns : goal.returns
@@ -10,4 +10,5 @@ returns c = record {
   capture = capture_owes;
   write = write_owes;
   fresh = fresh_owes;
+  parts = parts_owe;
 }

@@ -1,4 +1,4 @@
-use Rattle.std.proofs.Common.{◌<◌, ℕ, List, length, ap, refl, ◌∙◌, subst, arith, set, Some, Err, []}
+use Rattle.std.proofs.Common.{◌<◌, ℕ, List, length, ap, refl, ◌∙◌, subst, arith, set, Some, Err}
 use Rattle.std.specs.Prelude.{Option, IsSome}
 use Rattle.link_bay.specs.Answers.{ReadGives}
 use Rattle.link_bay.specs.declared.bay.Gave.TheVariants as G
