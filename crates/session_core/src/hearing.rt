@@ -77,11 +77,7 @@ fn count_packets(bytes: &[u8], packet: &[u8]) -> Option<usize>
 fn begun_maps(rest: &[u8]) -> usize
     ensures { result ≡ begun rest.now }
 {
-    if rest.is_empty() {
-        0
-    } else {
-        1
-    }
+    if rest.is_empty() { 0 } else { 1 }
 }
 
 /// The window that the script opens.
