@@ -31,7 +31,7 @@ writes_less most was now c c' (S.Took n) writes =
     let within = taken_within c.packets c.taken most n writes.0 writes.2.0 in
     let less = waiting_taken n c writes.1 within in
     omega (arith, less, ap waiting writes.3, writes.0)
-writes_less most was now c c' S.Again writes = omega (arith, ap waiting writes.2)
+writes_less most was now c c' S.Again writes = omega (arith, ap waiting writes.3)
 writes_less most was now c c' (S.Ended ended) writes = absurd writes
 writes_less most was now c c' S.NoMemory writes = omega (arith, ap waiting writes.2)
 

@@ -186,7 +186,7 @@ writes_told desk most was now c c' (S.Took n) writes told =
     subst (λ (d : ClientSeen). IsToldFor desk d now.sent) (sym writes.3)
     (took_told desk most n was.sent now.sent c writes.2.0 writes.1 (ap (λ r. r.sent) writes.2.2) told)
 writes_told desk most was now c c' S.Again writes told =
-    subst (λ (d : ClientSeen). IsToldFor desk d now.sent) (sym writes.2) (nothing_told desk was.sent now.sent c (ap (λ r. r.sent) writes.1.2) told)
+    subst (λ (d : ClientSeen). IsToldFor desk d now.sent) (sym writes.3) (nothing_told desk was.sent now.sent c (ap (λ r. r.sent) writes.1.2) told)
 writes_told desk most was now c c' (S.Ended ended) writes told = absurd writes
 writes_told desk most was now c c' S.NoMemory writes told =
     subst (λ (d : ClientSeen). IsToldFor desk d now.sent) (sym writes.2) (subst (IsToldFor desk c) (sym (ap (λ r. r.sent) writes.1)) told)

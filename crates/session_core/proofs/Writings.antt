@@ -6,7 +6,7 @@ use Rattle.link_bay.specs.Connections.{ConnectionRecord}
 use Rattle.window_model.specs.Desktop.{Window, find_window}
 use Rattle.paint_script.specs.declared.paint.Paint.{Paint}
 use Rattle.session_core.specs.declared.ends.End.{End}
-use Rattle.session_core.specs.declared.ends.End.TheVariants.{Unbuilt}
+use Rattle.session_core.specs.declared.ends.End.TheVariants.{Unbuilt, Short}
 use Rattle.session_core.specs.declared.answers.Sent.{Sent}
 use Rattle.session_core.specs.declared.answers.Sent.TheVariants as S
 use Rattle.session_core.specs.declared.answers.Received.{Received}
@@ -17,7 +17,7 @@ use Rattle.session_core.specs.Clients.{ClientSeen, plain, plain_clients}
 use Rattle.session_core.specs.State.{Seen, open_client}
 use Rattle.session_core.specs.Hearing.{HearsSlot, IsUnbuilt}
 use Rattle.session_core.specs.Reading.{Reads, EndsReading}
-use Rattle.session_core.specs.Sending.{Writes, WritesSlot, Fails, FailsSlot}
+use Rattle.session_core.specs.Sending.{Writes, WritesSlot, Fails, FailsSlot, WriteEnds}
 use Rattle.session_core.specs.Capturing.{CapturesWindow, CapturesSlot}
 use Rattle.session_core.specs.Steps.{Sends, SendsOne, Receives, ReceivesOne, Captures, CapturesOne, send_ends, receive_ends, with_client, with_end}
 use Rattle.std.proofs.lemmas.List.{set-get_or, get_or_default}
@@ -51,7 +51,7 @@ sends_written connection lines place desk ends clients bay bay' k most (Some c) 
     subst (λ o. MatchOption o ((answer ≡ S.Closed) × (new ≡ old)) (λ d. SendsOne k most (connection bay k) (connection bay' k) old d answer new))
     (sym (open_at clients k (Some c) within here))
     (subst (λ o. MatchOption o ((c' : ClientSeen) × Writes most (connection bay k) (connection bay' k) (plain c) answer c' × (new ≡ with_client k c' bay' old))
-    (λ ended. Fails most (connection bay k) (connection bay' k) (plain c) × (ended ≡ Unbuilt) × (new ≡ with_end k ended bay' old)))
+    (λ ended. WriteEnds most (connection bay k) (connection bay' k) (plain c) ended × (new ≡ with_end k ended bay' old)))
     (sym (goes_on most _ _ _ _ answer writes.1)) (writes.0, writes.1, is))
 
 pub sends_failed : {B : Type 0} (connection : B → ℕ → ConnectionRecord) (lines : List Paint) (place : ℕ) (desk : List Window) (ends : List End) (clients : List (Option ClientSeen)) (bay bay' : B) (new : Seen B)
@@ -64,7 +64,7 @@ sends_failed connection lines place desk ends clients bay bay' new k most (Some 
     let old = seen lines place desk ends (plain_clients clients) bay in
     subst (λ o. MatchOption o ((S.Ended Unbuilt ≡ S.Closed) × (new ≡ old)) (λ d. SendsOne k most (connection bay k) (connection new.bay k) old d (S.Ended Unbuilt) new))
     (sym (open_at clients k (Some c) within here))
-    (subst (λ r. Fails most (connection bay k) r (plain c)) (sym now) fails, refl, is ∙ ap (λ cs. seen lines place desk (set ends k Unbuilt) cs new.bay) (clients_gone clients k slot'))
+    (subst (λ r. Fails most (connection bay k) r (plain c)) (sym now) fails, is ∙ ap (λ cs. seen lines place desk (set ends k Unbuilt) cs new.bay) (clients_gone clients k slot'))
 
 -- a connection that is open stands in its place
 pub open_some : {A : Type 0} (clients : List (Option A)) (k : ℕ) → IsSome (open_client clients k) → (c : A) × (Some c ≡ get_or clients k (Some c))
@@ -114,27 +114,27 @@ EndsSlot was now lines desk slot answer = MatchOption slot ⊥ (λ c. EndsReadin
 pub why_unbuilt : (was now : ConnectionRecord) (lines : List Paint) (desk : List Window) (slot : Option ClientSeen) (bytes : List ℕ) (n : ℕ) → slot ≢ None → ReadGives was now [] bytes 4096 (G.Bytes n)
     → IfSome (option_map plain slot) (λ c. IsUnbuilt lines desk c bytes) → EndsSlot was now lines desk (option_map plain slot) (R.Ended Unbuilt)
 why_unbuilt was now lines desk None bytes n some gives unbuilt = absurd (some refl)
-why_unbuilt was now lines desk (Some c) bytes n some gives unbuilt = (refl, inr (inr (bytes, n, gives, unbuilt)))
+why_unbuilt was now lines desk (Some c) bytes n some gives unbuilt = (Unbuilt, refl, inr (inr (bytes, n, gives, unbuilt)))
 
 pub why_end : (was now : ConnectionRecord) (lines : List Paint) (desk : List Window) (slot : Option ClientSeen) → slot ≢ None → ReadGives was now [] [] 4096 G.End
     → EndsSlot was now lines desk (option_map plain slot) (R.Ended Unbuilt)
 why_end was now lines desk None some gives = absurd (some refl)
-why_end was now lines desk (Some c) some gives = (refl, inl gives)
+why_end was now lines desk (Some c) some gives = (Unbuilt, refl, inl gives)
 
 pub why_failed : (was now : ConnectionRecord) (lines : List Paint) (desk : List Window) (slot : Option ClientSeen) → slot ≢ None → ReadGives was now [] [] 4096 G.Failed
     → EndsSlot was now lines desk (option_map plain slot) (R.Ended Unbuilt)
 why_failed was now lines desk None some gives = absurd (some refl)
-why_failed was now lines desk (Some c) some gives = (refl, inr (inl gives))
+why_failed was now lines desk (Some c) some gives = (Unbuilt, refl, inr (inl gives))
 
 pub why_short : (was now : ConnectionRecord) (lines : List Paint) (desk : List Window) (slot : Option ClientSeen) (bytes : List ℕ) (n : ℕ) → slot ≢ None → ReadGives was now [] bytes 4096 (G.Bytes n)
     → EndsSlot was now lines desk (option_map plain slot) R.NoMemory
 why_short was now lines desk None bytes n some gives = absurd (some refl)
-why_short was now lines desk (Some c) bytes n some gives = inr (bytes, n, gives)
+why_short was now lines desk (Some c) bytes n some gives = (Short, refl, inr (bytes, n, gives))
 
 pub why_unread : (was now : ConnectionRecord) (lines : List Paint) (desk : List Window) (slot : Option ClientSeen) → slot ≢ None → ReadGives was now [] [] 4096 G.NoMemory
     → EndsSlot was now lines desk (option_map plain slot) R.NoMemory
 why_unread was now lines desk None some gives = absurd (some refl)
-why_unread was now lines desk (Some c) some gives = inl gives
+why_unread was now lines desk (Some c) some gives = (Short, refl, inl gives)
 
 pub receives_ended : {B : Type 0} (connection : B → ℕ → ConnectionRecord) (lines : List Paint) (place : ℕ) (desk : List Window) (ends : List End) (clients : List (Option ClientSeen)) (bay bay' : B) (new : Seen B)
     (k : ℕ) (e : End) (answer : Received) (cs : List (Option ClientSeen)) (slot : Option ClientSeen) → k < length clients → slot ≡ get_or clients k slot → receive_ends answer ≡ Some e

@@ -5,6 +5,7 @@ use Rattle.link_bay.specs.Answers.{ReadGives}
 use Rattle.link_bay.specs.declared.bay.Gave.TheVariants as G
 use Rattle.window_model.specs.Desktop.{Window}
 use Rattle.paint_script.specs.declared.paint.Paint.{Paint}
+use Rattle.session_core.specs.declared.ends.End.{End}
 use Rattle.session_core.specs.declared.ends.End.TheVariants as end
 use Rattle.session_core.specs.declared.answers.Received.{Received}
 use Rattle.session_core.specs.declared.answers.Received.TheVariants as R
@@ -23,12 +24,20 @@ Reads was now lines desk c R.NoMemory c' = ⊥
 abbrev pub ReadsUnbuilt : ConnectionRecord → ConnectionRecord → List Paint → List Window → ClientSeen → Type 0
 ReadsUnbuilt was now lines desk c = (bytes : List ℕ) × (n : ℕ) × ReadGives was now [] bytes 4096 (G.Bytes n) × IsUnbuilt lines desk c bytes
 
--- a read that ends the connection: it met the end, it failed, or what it read is not built; or memory was wanting
+-- why a read ends a connection, by the end
+abbrev pub ReadEnds : ConnectionRecord → ConnectionRecord → List Paint → List Window → ClientSeen → End → Type 0
+ReadEnds was now lines desk c end.Settled = ⊥
+ReadEnds was now lines desk c end.Unbuilt = ReadGives was now [] [] 4096 G.End ⊎ ReadGives was now [] [] 4096 G.Failed ⊎ ReadsUnbuilt was now lines desk c
+ReadEnds was now lines desk c end.Short = ReadGives was now [] [] 4096 G.NoMemory ⊎ (bytes : List ℕ) × (n : ℕ) × ReadGives was now [] bytes 4096 (G.Bytes n)
+ReadEnds was now lines desk c end.Unended = ⊥
+
+-- how a read answers that it ended a connection so
+abbrev pub ending_answer : End → Received
+ending_answer end.Settled = R.Ended end.Settled
+ending_answer end.Unbuilt = R.Ended end.Unbuilt
+ending_answer end.Short = R.NoMemory
+ending_answer end.Unended = R.Ended end.Unended
+
+-- a read that ends the connection
 abbrev pub EndsReading : ConnectionRecord → ConnectionRecord → List Paint → List Window → ClientSeen → Received → Type 0
-EndsReading was now lines desk c R.Closed = ⊥
-EndsReading was now lines desk c (R.Took n) = ⊥
-EndsReading was now lines desk c R.Again = ⊥
-EndsReading was now lines desk c (R.Ended ended) = (ended ≡ end.Unbuilt)
-    × (ReadGives was now [] [] 4096 G.End ⊎ ReadGives was now [] [] 4096 G.Failed ⊎ ReadsUnbuilt was now lines desk c)
-EndsReading was now lines desk c R.NoMemory = ReadGives was now [] [] 4096 G.NoMemory
-    ⊎ (bytes : List ℕ) × (n : ℕ) × ReadGives was now [] bytes 4096 (G.Bytes n)
+EndsReading was now lines desk c answer = (ended : End) × (answer ≡ ending_answer ended) × ReadEnds was now lines desk c ended

@@ -1,9 +1,12 @@
 -- A write to a connection that is open: what of the first packet is left, or as much of it as may be offered.
 use Rattle.std.specs.Prelude.{ℕ, ◌≤◌, ◌≡◌, ◌≢◌, Option, Some, None, List, [], take}
+use Rattle.xp_base.specs.Counts.{Rose}
 use Rattle.link_bay.specs.Connections.{ConnectionRecord}
 use Rattle.link_bay.specs.Answers.{WriteGives}
 use Rattle.link_bay.specs.declared.bay.Wrote.TheVariants as W
 use Rattle.session_core.specs.declared.answers.Sent.{Sent}
+use Rattle.session_core.specs.declared.ends.End.{End}
+use Rattle.session_core.specs.declared.ends.End.TheVariants as end
 use Rattle.session_core.specs.declared.answers.Sent.TheVariants as S
 use Rattle.session_core.specs.Clients.{ClientSeen, taken_more, front_rest}
 
@@ -16,13 +19,20 @@ abbrev pub Writes : ℕ → ConnectionRecord → ConnectionRecord → ClientSeen
 Writes most was now c S.Closed c' = ⊥
 Writes most was now c S.Idle c' = (c.packets ≡ []) × (now ≡ was) × (c' ≡ c)
 Writes most was now c (S.Took n) c' = (1 ≤ n) × (c.packets ≢ []) × WriteGives was now (offered most c) (W.Took n) × (c' ≡ taken_more n c)
-Writes most was now c S.Again c' = (c.packets ≢ []) × WriteGives was now (offered most c) (W.Took 0) × (c' ≡ c)
+Writes most was now c S.Again c' = (c.packets ≢ []) × WriteGives was now (offered most c) (W.Took 0) × Rose was.dry now.dry × (c' ≡ c)
 Writes most was now c (S.Ended ended) c' = ⊥
 Writes most was now c S.NoMemory c' = (c.packets ≢ []) × WriteGives was now (offered most c) W.NoMemory × (c' ≡ c)
 
 -- a write that failed
 abbrev pub Fails : ℕ → ConnectionRecord → ConnectionRecord → ClientSeen → Type 0
 Fails most was now c = (c.packets ≢ []) × WriteGives was now (offered most c) W.Failed
+
+-- why a write ends a connection, by the end
+abbrev pub WriteEnds : ℕ → ConnectionRecord → ConnectionRecord → ClientSeen → End → Type 0
+WriteEnds most was now c end.Settled = ⊥
+WriteEnds most was now c end.Unbuilt = Fails most was now c
+WriteEnds most was now c end.Short = ⊥
+WriteEnds most was now c end.Unended = ⊥
 
 -- the same of a connection's slot, which is empty where it has ended
 abbrev pub WritesSlot : ℕ → ConnectionRecord → ConnectionRecord → Option ClientSeen → Sent → Option ClientSeen → Type 0

@@ -23,7 +23,7 @@ use Rattle.session_core.specs.declared.ends.End.{End}
 use Rattle.session_core.specs.declared.ends.End.TheVariants as end
 use Rattle.session_core.specs.Clients.{ClientSeen, fresh_client, announced, damaged}
 use Rattle.session_core.specs.Reading.{Reads, EndsReading}
-use Rattle.session_core.specs.Sending.{Writes, Fails}
+use Rattle.session_core.specs.Sending.{Writes, WriteEnds}
 use Rattle.session_core.specs.Capturing.{CapturesWindow}
 use Rattle.session_core.specs.State.{Seen, capacity, open_count, open_client}
 
@@ -103,7 +103,7 @@ Captures k wid old answer new = MatchOption (open_client old.clients k) ((answer
 abbrev pub SendsOne : {B : Type 0} → ℕ → ℕ → ConnectionRecord → ConnectionRecord → Seen B → ClientSeen → Sent → Seen B → Type 0
 SendsOne k most was now old c answer new = MatchOption (send_ends answer)
     ((c' : ClientSeen) × Writes most was now c answer c' × (new ≡ with_client k c' new.bay old))
-    (λ ended. Fails most was now c × (ended ≡ end.Unbuilt) × (new ≡ with_end k ended new.bay old))
+    (λ ended. WriteEnds most was now c ended × (new ≡ with_end k ended new.bay old))
 
 -- a write: closed exactly where the connection is not open
 abbrev pub Sends : {B : Type 0} → (B → ℕ → ConnectionRecord) → ℕ → ℕ → Seen B → Sent → Seen B → Type 0
