@@ -21,3 +21,4 @@ pub mod Steadies
 pub mod Shown
 pub mod Owing
 pub mod Owned
+pub mod Calms

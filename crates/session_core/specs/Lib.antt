@@ -15,3 +15,4 @@ pub mod Laws
 pub mod Owed
 pub mod Shown
 pub mod Changes
+pub mod Calm

@@ -1,5 +1,5 @@
 // What settles one connection: rounds of reading, capturing and writing.
-ghost use Rattle.std.specs.Prelude.{◌≡◌, ◌≤◌, IfOk, IfErr};
+ghost use Rattle.std.specs.Prelude.{◌≡◌, ◌≤◌, IfOk, IfErr, OnOk, Ok, false};
 ghost use Rattle.link_bay.specs.Connections.{OthersStay};
 
 use crate::answers::{Captured, Received, Sent};
@@ -18,12 +18,16 @@ const DRY_LIMIT: u32 = 1000;
 const SEND_LIMIT: u32 = 65_536;
 
 impl<B: Bay + Drop> Session<B> {
-    ghost use Rattle.session_core.specs.State.{KeepsWindows};
+    ghost use Rattle.session_core.specs.State.{KeepsWindows, open_client};
     ghost use Rattle.session_core.specs.Ends.{LeavesEnds, waiting_at, WritesLess};
+    ghost use Rattle.session_core.specs.Shown.{IsAttached};
+    ghost use Rattle.session_core.specs.Calm.{AreClean, IsCalm, WaitsForNothing, sources_in};
 
     /// Reads, then captures, writes and reads again, until there was nothing to read after all was written.
     pub(crate) fn make_rounds(&mut self, c: Conn) -> Result<(), End>
         ensures windows { KeepsWindows self.old self.new }
+        ensures calm { OnOk result (IsCalm self.new.desk (open_client self.new.clients c.0)) }
+        ensures heard { OnOk result ((B.connection self.new.bay c.0).unheard ≡ 0) }
         ensures ends { LeavesEnds c.0 self.old.ends result self.new.ends }
         ensures others { OthersStay (B.connection self.old.bay) (B.connection self.new.bay) c.0 }
         ensures provider { B.provider self.new.bay ≡ B.provider self.old.bay }
@@ -45,6 +49,7 @@ impl<B: Bay + Drop> Session<B> {
         ensures windows { KeepsWindows self.old self.new }
         ensures ends { LeavesEnds c.0 self.old.ends result self.new.ends }
         ensures less { IfOk result (λ left. left ≤ budget) }
+        ensures quiet { IfOk result (λ left. left ≡ budget → (self.new.clients ≡ self.old.clients) × ((B.connection self.new.bay c.0).unheard ≡ 0)) }
         ensures others { OthersStay (B.connection self.old.bay) (B.connection self.new.bay) c.0 }
         ensures provider { B.provider self.new.bay ≡ B.provider self.old.bay }
     {
@@ -68,6 +73,7 @@ impl<B: Bay + Drop> Session<B> {
     /// Captures each window that the client has mapped.
     fn capture_all(&mut self, c: Conn) -> Result<(), End>
         ensures windows { KeepsWindows self.old self.new }
+        ensures clean { OnOk result (AreClean self.new.desk (open_client self.new.clients c.0)) }
         ensures ends { LeavesEnds c.0 self.old.ends result self.new.ends }
         ensures bay { self.new.bay ≡ self.old.bay }
     {
@@ -87,6 +93,8 @@ impl<B: Bay + Drop> Session<B> {
     /// Writes until nothing waits.
     fn send_all(&mut self, c: Conn) -> Result<(), End>
         ensures windows { KeepsWindows self.old self.new }
+        ensures idle { OnOk result (WaitsForNothing (open_client self.new.clients c.0)) }
+        ensures sources { OnOk result (sources_in (open_client self.new.clients c.0) ≡ sources_in (open_client self.old.clients c.0)) }
         ensures ends { LeavesEnds c.0 self.old.ends result self.new.ends }
         ensures others { OthersStay (B.connection self.old.bay) (B.connection self.new.bay) c.0 }
         ensures provider { B.provider self.new.bay ≡ B.provider self.old.bay }
@@ -104,6 +112,8 @@ impl<B: Bay + Drop> Session<B> {
         ensures windows { KeepsWindows self.old self.new }
         ensures ends { LeavesEnds c.0 self.old.ends result self.new.ends }
         ensures less { IfOk result (λ wrote. WritesLess wrote (waiting_at self.old.clients c.0) (waiting_at self.new.clients c.0)) }
+        ensures idle { result ≡ Ok false → WaitsForNothing (open_client self.new.clients c.0) }
+        ensures sources { OnOk result (sources_in (open_client self.new.clients c.0) ≡ sources_in (open_client self.old.clients c.0)) }
         ensures others { OthersStay (B.connection self.old.bay) (B.connection self.new.bay) c.0 }
         ensures provider { B.provider self.new.bay ≡ B.provider self.old.bay }
     {
@@ -122,7 +132,8 @@ impl<B: Bay + Drop> Session<B> {
 
     /// A client that has not said a whole hello is not settled.
     fn check_greeted(&self, c: Conn) -> Result<(), End>
-        ensures { IfErr result (λ end. end ≡ End.Unbuilt) }
+        ensures unbuilt { IfErr result (λ end. end ≡ End.Unbuilt) }
+        ensures greeted { OnOk result (IsAttached self.now.clients c.0) }
     {
         match self.clients.get(c.0 as usize) {
             Some(Some(client)) if client.greeted => Ok(()),

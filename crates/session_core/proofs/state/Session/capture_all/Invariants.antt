@@ -1,10 +1,14 @@
-use Rattle.std.proofs.Common.{◌≡◌}
-use Rattle.session_core.specs.State.{KeepsWindows}
+use Rattle.std.proofs.Common.{◌≡◌, ℕ, ◌<◌, Some}
+use Rattle.std.specs.Prelude.{slice_get}
+use Rattle.window_model.specs.Desktop.{Window}
+use Rattle.session_core.specs.State.{KeepsWindows, open_client}
+use Rattle.session_core.specs.Calm.{IsCleanAt, sources_in}
 use Rattle.session_core.proofs.state.Session.capture_all.Given as goal
 
 abbrev pub invariant-loop-place : goal.invariant-loop-place
 invariant-loop-place g l = record {
   windows : KeepsWindows l.initial.self l.self;
+  clean : (i : ℕ) (w : Window) → i < l.place → slice_get l.self.desk i ≡ Some w → IsCleanAt (sources_in (open_client l.self.clients l.c.0)) w.wid;
   ends : l.self.ends ≡ l.initial.self.ends;
   bay : l.self.bay ≡ l.initial.self.bay;
 }

@@ -7,6 +7,7 @@ abbrev pub invariant-reads : goal.invariant-reads
 invariant-reads g l = record {
   windows : KeepsWindows l.initial.self l.self;
   ends : l.self.ends ≡ l.initial.self.ends;
+  quiet : l.left ≡ l.budget → l.self.clients ≡ l.initial.self.clients;
   less : l.left ≤ l.budget;
   others : OthersStay (g.B.Bay.connection l.initial.self.bay) (g.B.Bay.connection l.self.bay) l.c.0;
   provider : g.B.Bay.provider l.self.bay ≡ g.B.Bay.provider l.initial.self.bay;
