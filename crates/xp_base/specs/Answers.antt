@@ -1,5 +1,5 @@
 -- What a source and a sink may answer, and what that leaves of them.
-use Rattle.std.specs.Prelude.{ℕ, ◌≤◌, ◌≡◌, Option, Some, None, List, [], ◌++◌, take, length}
+use Rattle.std.specs.Prelude.{ℕ, ◌≤◌, ◌≡◌, List, ◌++◌, take, length}
 use Rattle.xp_base.specs.declared.source.Get.{Get}
 use Rattle.xp_base.specs.declared.source.Get.TheVariants as G
 use Rattle.xp_base.specs.declared.sink.Put.{Put}

@@ -1,5 +1,5 @@
 -- Pixels of a window, row by row from the top.
-use Rattle.std.specs.Prelude.{ℕ, Bool, ◌+◌, ◌*◌, ◌/◌, ◌%◌, Option, Some, None, List, slice_get, if◌then◌else◌}
+use Rattle.std.specs.Prelude.{ℕ, Bool, ◌+◌, ◌*◌, ◌/◌, ◌%◌, Option, None, List, slice_get, if◌then◌else◌}
 use Rattle.xp_base.specs.Points.{Rectangle, is_in, is_within}
 
 -- the place of a point in rows this wide

@@ -7,3 +7,4 @@ pub mod Captures
 pub mod Streams
 pub mod Memory
 pub mod Answers
+pub mod Adapters

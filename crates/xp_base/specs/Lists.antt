@@ -1,5 +1,5 @@
 -- Parts of lists.
-use Rattle.std.specs.Prelude.{ℕ, ◌≡◌, List, [], ◌∷◌, ◌++◌, ◌⊎◌}
+use Rattle.std.specs.Prelude.{◌≡◌, List, [], ◌∷◌, ◌++◌, ◌⊎◌}
 
 -- the list begins with these items
 abbrev pub IsPrefix : {A : Type 0} → List A → List A → Type 0

@@ -1,6 +1,5 @@
 // Output to memory.
-ghost use Rattle.std.specs.Prelude.{◌≡◌, ◌↔◌, [], Contains};
-ghost use Rattle.xp_base.specs.Counts.{count_sum};
+ghost use Rattle.std.specs.Prelude.{◌≡◌, ◌≢◌, ◌↔◌, [], Contains};
 
 use crate::sink::{Put, Sink};
 use std::alloc::Global;
@@ -46,18 +45,17 @@ impl MemSink {
 
 impl Sink for MemSink {
     ghost use Rattle.xp_base.specs.Answers.{PutGives};
-    ghost use Rattle.xp_base.specs.Memory.{output_record};
+    ghost use Rattle.xp_base.specs.Memory.{output_record, after_put};
 
     ghost sink = { output_record };
 
     fn put(&mut self, piece: &[u8]) -> Put
         ensures answer { PutGives (output_record self.old) (output_record self.new) piece.now result }
 
-        // A call fails exactly where its number is in the list, and then takes nothing.
-        ensures call { self.new.calls ≡ count_sum self.old.calls 1 }
-        ensures list { self.new.failing ≡ self.old.failing }
+        // A call fails exactly where its number is in the list, and only a call that is done takes anything.
+        ensures state { self.new ≡ after_put self.old piece.now result }
         ensures fails { (result ≡ Put.Failed) ↔ Contains self.old.failing self.new.calls }
-        ensures nothing { result ≡ Put.Failed → self.new.taken ≡ self.old.taken }
+        ensures short { result ≡ Put.NoMemory → piece.now ≢ [] }
     {
         self.calls = self.calls.saturating_add(1);
         if self.failing.contains(&self.calls) {

@@ -1,6 +1,5 @@
 // Input from memory.
-ghost use Rattle.std.specs.Prelude.{◌≡◌, ◌≤◌, ◌↔◌, min, length, Contains};
-ghost use Rattle.xp_base.specs.Counts.{count_sum};
+ghost use Rattle.std.specs.Prelude.{◌≡◌, ◌≢◌, ◌≤◌, ◌↔◌, [], min, length, Contains};
 
 use crate::source::{Get, Source};
 use std::marker::Model;
@@ -42,7 +41,7 @@ impl MemSource {
 
 impl Source for MemSource {
     ghost use Rattle.xp_base.specs.Answers.{GetGives, GetsSome};
-    ghost use Rattle.xp_base.specs.Memory.{input_record};
+    ghost use Rattle.xp_base.specs.Memory.{input_record, after_get};
 
     ghost source = { input_record };
 
@@ -51,9 +50,9 @@ impl Source for MemSource {
         ensures answer { GetGives (input_record self.old) (input_record self.new) into.old.items into.new.items max result }
 
         // A call fails exactly where its number is in the list, and gives all that is asked for and left.
-        ensures call { self.new.calls ≡ count_sum self.old.calls 1 }
-        ensures list { self.new.failing ≡ self.old.failing }
+        ensures state { self.new ≡ after_get self.old result }
         ensures fails { (result ≡ Get.Failed) ↔ Contains self.old.failing self.new.calls }
+        ensures short { result ≡ Get.NoMemory → self.old.left ≢ [] }
         ensures amount { GetsSome (min max (length self.old.left)) result }
     {
         self.calls = self.calls.saturating_add(1);

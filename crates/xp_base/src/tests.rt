@@ -1,4 +1,9 @@
+ghost use Rattle.std.specs.Prelude.{◌≤◌};
+
 use super::*;
+use std::alloc::{AllocError, Global};
+use std::io;
+use std::io::{ErrorKind, Read, Write};
 use std::test::Fail;
 
 #[test]
@@ -71,4 +76,230 @@ fn a_sink_in_memory_keeps_what_it_took(rt: HostRuntime) -> Result<(), Fail> {
     }
     assert_eq!(rt; sink.bytes(), [1, 2, 5, 6].as_slice());
     Ok(())
+}
+
+/// Some reads or writes, by their numbers from 1 on, and how they fail.
+type Faults<'a> = &'a [(u64, ErrorKind)];
+
+fn fault_at(faults: Faults<'_>, call: u64) -> io::Result<()> {
+    match faults.iter().find(|fault| fault.0 == call) {
+        Some(fault) => Err(io::Error::from(fault.1)),
+        None => Ok(()),
+    }
+}
+
+/// A reader that gives its text, at most `step` bytes a read.
+#[derive(Drop)]
+struct FakeReader<'a> {
+    text: &'a [u8],
+    step: usize,
+    faults: Faults<'a>,
+    calls: u64,
+}
+
+impl Read for FakeReader<'_> {
+    fn read(&mut self, buf: &mut [u8]) -> io::Result<usize> {
+        self.calls = self.calls.saturating_add(1);
+        fault_at(self.faults, self.calls)?;
+        let count = self.text.len().min(buf.len()).min(self.step);
+        buf[..count].copy_from_slice(&self.text[..count]);
+        self.text = &self.text[count..];
+        Ok(count)
+    }
+}
+
+const LOST: ErrorKind = ErrorKind::BrokenPipe;
+
+const LATE: ErrorKind = ErrorKind::WouldBlock;
+
+const SIGNAL: ErrorKind = ErrorKind::Interrupted;
+
+const ONE: Get = Get::Got(1);
+
+const TWO: Get = Get::Got(2);
+
+const END: Get = Get::End;
+
+const FAILED: Get = Get::Failed;
+
+/// The answers to so many calls over a reader of the bytes 1 to 5, and the buffer behind them, which
+/// begins with a byte 9.
+fn read_five(
+    alloc: Global,
+    step: usize,
+    faults: Faults<'_>,
+    max: u32,
+    calls: usize,
+) -> Result<(Vec<Get>, Vec<u8>), AllocError>
+    requires { 1 ≤ max }
+{
+    let text = [1, 2, 3, 4, 5];
+    let mut source = ReaderSource::new(FakeReader {
+        text: &text,
+        step,
+        faults,
+        calls: 0,
+    });
+    let mut answers = Vec::new(alloc);
+    let mut into = [9].to_vec(alloc)?;
+    for _ in 0..calls {
+        answers.push(source.get(&mut into, max))?;
+    }
+    Ok((answers, into))
+}
+
+#[test]
+fn what_a_reader_gives_comes_through_whole(rt: HostRuntime) -> Result<(), Fail> {
+    let cases: [(usize, u32, &[Get]); 6] = [
+        (1, 9, &[ONE, ONE, ONE, ONE, ONE, END, END]),
+        (2, 9, &[TWO, TWO, ONE, END, END]),
+        (9, 2, &[TWO, TWO, ONE, END, END]),
+        (9, 1, &[ONE, ONE, ONE, ONE, ONE, END]),
+        (9, 5, &[Get::Got(5), END, END]),
+        (9, u32::MAX, &[Get::Got(5), END]),
+    ];
+    for (step, max, want) in cases {
+        let (answers, into) = read_five(rt.alloc(), step, &[], max, want.len())?;
+        assert_eq!(rt; answers.as_slice(), want, "{step} {max}");
+        assert_eq!(rt;
+            into.as_slice(),
+            [9, 1, 2, 3, 4, 5].as_slice(),
+            "{step} {max}"
+        );
+    }
+    Ok(())
+}
+
+#[test]
+fn a_read_that_fails_loses_nothing(rt: HostRuntime) -> Result<(), Fail> {
+    let cases: [(Faults<'_>, &[Get]); 4] = [
+        (
+            &[(2, LOST), (3, LATE)],
+            &[TWO, FAILED, FAILED, TWO, ONE, END],
+        ),
+        (&[(4, LOST)], &[TWO, TWO, ONE, FAILED, END]),
+        (&[(1, SIGNAL), (2, SIGNAL)], &[TWO, TWO, ONE, END]),
+        (
+            &[(1, SIGNAL), (2, LATE), (4, SIGNAL)],
+            &[FAILED, TWO, TWO, ONE, END],
+        ),
+    ];
+    for (faults, want) in cases {
+        let (answers, into) = read_five(rt.alloc(), 2, faults, 9, want.len())?;
+        assert_eq!(rt; answers.as_slice(), want);
+        assert_eq!(rt; into.as_slice(), [9, 1, 2, 3, 4, 5].as_slice());
+    }
+    Ok(())
+}
+
+#[test]
+fn a_long_text_comes_through_whole(rt: HostRuntime) -> Result<(), Fail> {
+    let alloc = rt.alloc();
+    let mut text = Vec::new(alloc);
+    for i in 0..10_000u32 {
+        text.push((i % 251) as u8)?;
+    }
+    for step in [1, 4095, 4096, 10_000] {
+        let mut source = ReaderSource::new(FakeReader {
+            text: text.as_slice(),
+            step,
+            faults: &[],
+            calls: 0,
+        });
+        let mut into = Vec::new(alloc);
+        for _ in 0..10_000 {
+            if source.get(&mut into, u32::MAX) == END {
+                break;
+            }
+        }
+        assert_eq!(rt; source.get(&mut into, 1), END, "{step}");
+        assert!(rt; into.as_slice() == text.as_slice(), "{step}");
+    }
+    Ok(())
+}
+
+/// A writer that takes at most `step` bytes a write, and sends on what it holds when it is flushed.
+/// Where it is `stuck`, each flush fails and sends nothing.
+#[derive(Drop)]
+struct FakeWriter<'a> {
+    held: Vec<u8>,
+    sent: Vec<u8>,
+    step: usize,
+    faults: Faults<'a>,
+    stuck: bool,
+    calls: u64,
+}
+
+impl Write for FakeWriter<'_> {
+    fn write(&mut self, buf: &[u8]) -> io::Result<usize> {
+        self.calls = self.calls.saturating_add(1);
+        fault_at(self.faults, self.calls)?;
+        let count = buf.len().min(self.step);
+        self.held.extend_from_slice(&buf[..count])?;
+        Ok(count)
+    }
+
+    fn flush(&mut self) -> io::Result<()> {
+        if self.stuck {
+            return Err(io::Error::from(LOST));
+        }
+        self.sent.extend_from_slice(self.held.as_slice())?;
+        self.held.clear();
+        Ok(())
+    }
+}
+
+fn fake_writer(alloc: Global, step: usize, faults: Faults<'_>, stuck: bool) -> FakeWriter<'_> {
+    FakeWriter {
+        held: Vec::new(alloc),
+        sent: Vec::new(alloc),
+        step,
+        faults,
+        stuck,
+        calls: 0,
+    }
+}
+
+#[test]
+fn a_writer_gets_each_piece_whole(rt: HostRuntime) {
+    let cases: [(usize, Faults<'_>); 5] = [
+        (1, &[]),
+        (2, &[]),
+        (9, &[]),
+        (1, &[(2, SIGNAL), (3, SIGNAL)]),
+        (9, &[(1, SIGNAL)]),
+    ];
+    let pieces: [(&[u8], &[u8]); 4] = [
+        (&[1], &[1]),
+        (&[2, 3], &[1, 2, 3]),
+        (&[], &[1, 2, 3]),
+        (&[4, 5, 6], &[1, 2, 3, 4, 5, 6]),
+    ];
+    for (step, faults) in cases {
+        let mut writer = fake_writer(rt.alloc(), step, faults, false);
+        for (piece, sent) in pieces {
+            let put = WriterSink::new(&mut writer).put(piece);
+            assert_eq!(rt; put, Put::Done, "{step} {piece:?}");
+            assert_eq!(rt; writer.sent.as_slice(), sent, "{step} {piece:?}");
+        }
+    }
+}
+
+#[test]
+fn a_write_or_a_flush_that_fails_is_told(rt: HostRuntime) {
+    // what fails, and then the bytes 1 and 2 in one piece: what of them is held
+    let cases: [(usize, Faults<'_>, bool, &[u8]); 5] = [
+        (2, &[(1, LOST)], false, &[]),
+        (1, &[(2, LATE)], false, &[1]),
+        (1, &[(1, SIGNAL), (3, LOST)], false, &[1]),
+        (0, &[], false, &[]),
+        (2, &[], true, &[1, 2]),
+    ];
+    for (step, faults, stuck, held) in cases {
+        let mut writer = fake_writer(rt.alloc(), step, faults, stuck);
+        let put = WriterSink::new(&mut writer).put(&[1, 2]);
+        assert_eq!(rt; put, Put::Failed, "{step}");
+        assert_eq!(rt; writer.held.as_slice(), held, "{step}");
+        assert!(rt; writer.sent.is_empty(), "{step}");
+    }
 }

@@ -1,4 +1,4 @@
-use Rattle.std.proofs.Common.{rules, arith, ◌≡◌, ◌+◌, ◌++◌, ◌∙◌, take, drop, sym, ap}
+use Rattle.std.proofs.Common.{arith, ◌≡◌, ◌∙◌, take, drop, sym, ap}
 use Rattle.std.proofs.lemmas.Grind.{common_steps}
 use Rattle.xp_base.specs.Memory.{MemoryInput}
 use Rattle.xp_base.proofs.Pieces.{drop-piece}
