@@ -44,7 +44,7 @@ writes_sources most was now c c' (S.Ended ended) writes = absurd writes
 writes_sources most was now c c' S.NoMemory writes = ap (λ (d : ClientSeen). d.sources) writes.2
 
 -- what stands at a place whose client is as it is now
-now_open : {B : Type 0} (old new : Seen B) (k : ℕ) (c c' : ClientSeen) → open_client old.clients k ≡ Some c → new ≡ with_client k c' new.bay old → open_client new.clients k ≡ Some c'
+pub now_open : {B : Type 0} (old new : Seen B) (k : ℕ) (c c' : ClientSeen) → open_client old.clients k ≡ Some c → new ≡ with_client k c' new.bay old → open_client new.clients k ≡ Some c'
 now_open old new k c c' here is = ap (λ (s : Seen _). open_client s.clients k) is ∙ open_set old.clients k c (Some c') here
 
 -- a write that does not end the connection leaves its sources

@@ -1,5 +1,5 @@
 -- What becomes of the ends where a connection is accepted, and where one ends.
-use Rattle.std.proofs.Common.{◌≡◌, inl, inr, ℕ, zero, suc, ◌+◌, ◌<◌, Bool, true, false, List, [], ◌∷◌, ◌++◌, length, get_or, set, get_or-set_other, Option, Some, None, refl, ap, ◌∙◌, sym, arith, map}
+use Rattle.std.proofs.Common.{◌≡◌, inl, inr, ℕ, zero, suc, ◌+◌, ◌<◌, Bool, true, false, List, [], ◌∷◌, ◌++◌, length, take, get_or, set, get_or-set_other, Option, Some, None, refl, ap, ◌∙◌, sym, arith, map}
 use Rattle.std.proofs.Math.ListN.{length-set, get_or-append}
 use Rattle.std.proofs.lemmas.Bool.{cases_eq}
 use Rattle.std.proofs.lemmas.List.{length-append, get_or_default}
@@ -119,15 +119,42 @@ all_ended clients ends live none = each ends (sym (open_count_is clients ends li
         first false none = refl
     each (e ∷ ends) none (suc k) d within = each ends (omega (arith, none, sum_by-cons (λ x. cond (is_unended x) 1 0) e ends)) k d (omega (arith, within))
 
--- a connection that was open has ended after its rounds, as they end it or as it is dropped then
-pub one_dropped : {A : Type 0} (k : ℕ) (old now new : List End) (rounds : Result A End) → k < length old → is_unended (get_or old k (rounds_end rounds)) ≡ true → LeavesEnds k old rounds now
-    → new ≡ set now k (rounds_end rounds) → EndsOne old (rounds_end rounds) new
-one_dropped k old now new (Ok done) within unended leaves is = record { number = k; within = within; unended = unended; closed = refl; changed = is ∙ ap (λ es. set es k Settled) leaves }
-one_dropped k old now new (Err e) within unended (closed, inl same) is = record { number = k; within = within; unended = unended; closed = closed; changed = is ∙ ap (λ es. set es k e) same }
-one_dropped k old now new (Err e) within unended (closed, inr gone) is = record { number = k; within = within; unended = unended; closed = closed; changed = is ∙ ap (λ es. set es k e) gone ∙ set_twice old k e e }
+-- where none of the first so many is open
+pub none_before : {A : Type 0} (clients : List (Option A)) (place k : ℕ) → open_count (take place clients) ≡ 0 → k < place → open_client clients k ≡ None
+none_before [] place k none low = refl
+none_before (c ∷ clients) zero k none low = absurd (omega (arith, low))
+none_before (None ∷ clients) (suc place) zero none low = refl
+none_before (Some c ∷ clients) (suc place) zero none low = absurd (omega (arith, none, sum_by-cons (λ o. cond (is_some o) 1 0) (Some c) (take place clients)))
+none_before (c ∷ clients) (suc place) (suc k) none low = none_before clients place k (omega (arith, none, sum_by-cons (λ o. cond (is_some o) 1 0) c (take place clients))) (omega (arith, low))
 
-pub one_left : {A : Type 0} (k : ℕ) (old now : List End) (rounds : Result A End) → k < length old → is_unended (get_or old k (rounds_end rounds)) ≡ true → LeavesEnds k old rounds now
+-- a connection that was open has ended after its rounds, as they end it or as it is dropped then
+pub dropped_changed : {A : Type 0} (k : ℕ) (old now new : List End) (rounds : Result A End) → LeavesEnds k old rounds now → new ≡ set now k (rounds_end rounds) → new ≡ set old k (rounds_end rounds)
+dropped_changed k old now new (Ok done) leaves is = is ∙ ap (λ es. set es k Settled) leaves
+dropped_changed k old now new (Err e) (closed, inl same) is = is ∙ ap (λ es. set es k e) same
+dropped_changed k old now new (Err e) (closed, inr gone) is = is ∙ ap (λ es. set es k e) gone ∙ set_twice old k e e
+
+unfoldable pub one_dropped : {A : Type 0} (k : ℕ) (old now new : List End) (rounds : Result A End) → k < length old → is_unended (get_or old k (rounds_end rounds)) ≡ true → LeavesEnds k old rounds now
+    → new ≡ set now k (rounds_end rounds) → EndsOne old (rounds_end rounds) new
+one_dropped k old now new rounds within unended leaves is = record {
+  number = k;
+  within = within;
+  unended = unended;
+  closed = rounds_closed k old now rounds leaves;
+  changed = dropped_changed k old now new rounds leaves is;
+}
+
+pub left_changed : {A : Type 0} (k : ℕ) (old now : List End) (rounds : Result A End) → is_unended (get_or old k (rounds_end rounds)) ≡ true → LeavesEnds k old rounds now → is_unended (get_or now k (rounds_end rounds)) ≡ false
+    → now ≡ set old k (rounds_end rounds)
+left_changed k old now (Ok done) unended leaves gone = absurd (cc (ap (λ es. is_unended (get_or es k Settled)) leaves, unended, gone))
+left_changed k old now (Err e) unended (closed, inl same) gone = absurd (cc (ap (λ es. is_unended (get_or es k e)) same, unended, gone))
+left_changed k old now (Err e) unended (closed, inr ended) gone = ended
+
+unfoldable pub one_left : {A : Type 0} (k : ℕ) (old now : List End) (rounds : Result A End) → k < length old → is_unended (get_or old k (rounds_end rounds)) ≡ true → LeavesEnds k old rounds now
     → is_unended (get_or now k (rounds_end rounds)) ≡ false → EndsOne old (rounds_end rounds) now
-one_left k old now (Ok done) within unended leaves gone = absurd (cc (ap (λ es. is_unended (get_or es k Settled)) leaves, unended, gone))
-one_left k old now (Err e) within unended (closed, inl same) gone = absurd (cc (ap (λ es. is_unended (get_or es k e)) same, unended, gone))
-one_left k old now (Err e) within unended (closed, inr ended) gone = record { number = k; within = within; unended = unended; closed = closed; changed = ended }
+one_left k old now rounds within unended leaves gone = record {
+  number = k;
+  within = within;
+  unended = unended;
+  closed = rounds_closed k old now rounds leaves;
+  changed = left_changed k old now rounds unended leaves gone;
+}

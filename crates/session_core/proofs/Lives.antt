@@ -147,3 +147,9 @@ set_twice (z ∷ xs) (suc k) x y = ap (λ ys. z ∷ ys) (set_twice xs k x y)
 
 pub clients_gone : (clients : List (Option ClientSeen)) (k : ℕ) (slot' : Option ClientSeen) → set (plain_clients (set clients k slot')) k None ≡ set (plain_clients clients) k None
 clients_gone clients k slot' = ap (λ cs. set cs k None) (plain_clients-set clients k slot') ∙ set_twice (plain_clients clients) k (option_map plain slot') None
+
+pub none_plain : (clients : List (Option ClientSeen)) (k : ℕ) → open_client clients k ≡ None → open_client (plain_clients clients) k ≡ None
+none_plain [] k none = refl
+none_plain (None ∷ clients) zero none = refl
+none_plain (Some c ∷ clients) zero none = absurd (cc none)
+none_plain (slot ∷ clients) (suc k) none = none_plain clients k none

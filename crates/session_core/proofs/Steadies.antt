@@ -1,178 +1,53 @@
 -- What every session keeps, where one connection changes, comes or ends, or all change.
-use Rattle.std.proofs.Common.{◌≡◌, ◌≢◌, ◌⊎◌, inl, inr, ℕ, zero, suc, ◌+◌, ◌<◌, ◌≤◌, ◌^◌, Bool, true, false, List, [], ◌∷◌, ◌++◌, length, get_or, set, take, drop, Option, Some, None, refl, ap, ◌∙◌, sym, subst, arith, map, min, ◌-◌, eqb}
+use Rattle.std.proofs.Common.{◌≡◌, ◌≢◌, ◌⊎◌, inl, inr, ℕ, ◌+◌, ◌<◌, ◌≤◌, ◌^◌, Bool, true, false, List, [], ◌∷◌, ◌++◌, length, get_or, set, take, Option, Some, None, refl, ap, ◌∙◌, sym, subst, arith, map, eqb}
 use Rattle.std.specs.Option.{option_map}
-use Rattle.std.specs.Prelude.{position, nat_lt}
-use Rattle.std.proofs.lemmas.Bool.{cases_Bool, cases_eq, cases_lt, cond-true, cond-false}
-use Rattle.std.proofs.lemmas.Bool.Decides.{nat_tests}
-use Rattle.std.proofs.lemmas.List.{append-nil, length-map, map-append, length-take, length-drop}
+use Rattle.std.specs.Prelude.{position, nat_lt, Result, Ok, Err}
+use Rattle.xp_base.specs.declared.memory.NoMemory.{NoMemory}
+use Rattle.link_bay.specs.Provider.{ProviderRecord}
+use Rattle.link_bay.specs.Answers.{OrderGives}
+use Rattle.link_bay.specs.declared.order.Order.{Order}
+use Rattle.std.proofs.lemmas.Bool.{cases_Bool, cases_eq}
+use Rattle.std.proofs.lemmas.List.{append-nil}
 use Rattle.xp_base.specs.Told.{told_append, told_empty}
-use Rattle.link_bay.specs.Connections.{ConnectionRecord, OthersStay, AllStay, fresh_connection}
+use Rattle.link_bay.specs.Connections.{ConnectionRecord, OthersStay, fresh_connection}
 use Rattle.window_model.specs.Desktop.{Window, IsWindow, IsDesktop, find_window}
 use Rattle.paint_script.specs.declared.paint.Paint.{Paint}
-use Rattle.session_core.specs.declared.packet.Packet.{Packet}
 use Rattle.session_core.specs.declared.source.Source.{Source}
 use Rattle.session_core.specs.declared.geometry.Geometry.{Geometry}
 use Rattle.session_core.specs.declared.answers.Sent.{Sent}
 use Rattle.session_core.specs.declared.answers.Sent.TheVariants as S
 use Rattle.session_core.specs.declared.answers.Captured.{Captured}
 use Rattle.session_core.specs.declared.answers.Captured.TheVariants as C
-use Rattle.session_core.specs.Clients.{ClientSeen, plain, plain_clients, fresh_client, attached, taken_more, front_size, front_rest, IsTaken}
-use Rattle.session_core.specs.State.{open_client}
-use Rattle.session_core.specs.Hearing.{Hears, HearsAs, HearsMaps, HearsFirst, HearsSlot, HearsNoMore, HearsNoMoreSlot, script_window, after_maps}
+use Rattle.session_core.specs.Clients.{ClientSeen, plain, plain_clients, fresh_client, attached, taken_more}
+use Rattle.session_core.specs.Hearing.{Hears, HearsAs, HearsMaps, HearsFirst, HearsSlot, script_window, after_maps}
 use Rattle.session_core.specs.Sending.{Writes, WritesSlot, FailsSlot, offered}
 use Rattle.session_core.specs.Capturing.{CapturesWindow, CapturesSlot}
 use Rattle.session_core.specs.declared.ends.End.{End}
 use Rattle.session_core.specs.declared.ends.End.TheVariants.{Unended}
 use Rattle.session_core.specs.Steady.{IsSteady}
 use Rattle.session_core.specs.Told.{IsTold, IsToldFor, AreTold}
-use Rattle.session_core.proofs.Slots.{plain_clients-set}
-use Rattle.session_core.proofs.Lives.{open_at, session_accepted, length_same, live_same}
+use Rattle.paint_script.specs.Painting.{desk_at}
+use Rattle.std.specs.Prelude.{slice_get, is_some}
+use Rattle.session_core.specs.Given.{IsKnown, AreKnown}
+use Rattle.session_core.specs.State.{is_unended}
+use Rattle.session_core.proofs.Lives.{session_slot, session_ended, session_accepted, session_painted, length_same, live_same}
+use Rattle.session_core.proofs.Announced.{wrote_some}
+use Rattle.session_core.proofs.Each.{InSlot, each_slot, each_here, each_none, each_all, each_accepted, each_others}
+use Rattle.session_core.proofs.Knowns.{known_fresh, known_same, writes_known, captures_known, hears_known, line_known}
 use Rattle.session_core.proofs.Sources.{some_same}
 use Rattle.paint_script.specs.declared.paint.Paint.TheVariants.{Open, Fill}
 use Rattle.paint_script.specs.Painting.{painted, rectangle}
 use Rattle.paint_script.specs.Validity.{IsPaintOn}
 use Rattle.session_core.specs.Steps.{painted_client}
-use Rattle.session_core.proofs.Tellings.{told_fresh, told_part, told_whole, told_captured, told_filled}
+use Rattle.session_core.proofs.Tellings.{told_fresh, told_captured, told_filled}
 use Rattle.session_core.proofs.Attachings.{told_attached, told_mapped, told_read, told_opened}
 
-open_other : {A : Type 0} (clients : List (Option A)) (k d : ℕ) (slot : Option A) → d ≢ k → open_client (set clients k slot) d ≡ open_client clients d
-open_other [] k d slot other = refl
-open_other (c ∷ clients) zero zero slot other = absurd (other refl)
-open_other (c ∷ clients) zero (suc d) slot other = refl
-open_other (c ∷ clients) (suc k) zero slot other = refl
-open_other (c ∷ clients) (suc k) (suc d) slot other = open_other clients k d slot (λ same. other (ap (λ n. suc n) same))
-
-open_here : {A : Type 0} (clients : List (Option A)) (k : ℕ) (slot : Option A) → k < length clients → open_client (set clients k slot) k ≡ slot
-open_here [] k slot within = absurd (omega (arith, within))
-open_here (c ∷ clients) zero slot within = refl
-open_here (c ∷ clients) (suc k) slot within = open_here clients k slot (omega (arith, within))
-
--- what is kept of a connection's slot, where one is there
-abbrev pub IsToldSlot : List Window → Option ClientSeen → Option (List ℕ) → Type 0
-IsToldSlot desk slot sent = (c : ClientSeen) → option_map plain slot ≡ Some c → IsToldFor desk c sent
-
--- one connection is as it is now, and the others stay
-pub told_slot : (connection connection' : ℕ → ConnectionRecord) (desk : List Window) (clients : List (Option ClientSeen)) (k : ℕ) (slot' : Option ClientSeen) → AreTold connection desk (plain_clients clients)
-    → OthersStay connection connection' k → k < length clients → IsToldSlot desk slot' (connection' k).sent → AreTold connection' desk (plain_clients (set clients k slot'))
-told_slot connection connection' desk clients k slot' told others within next = λ d c is.
-    let now : open_client (set (plain_clients clients) k (option_map plain slot')) d ≡ Some c = ap (λ cs. open_client cs d) (sym (plain_clients-set clients k slot')) ∙ is in
-    elim (cases_eq d k) [
-      | inl same ↦
-          let here : option_map plain slot' ≡ Some c =
-          sym (open_here (plain_clients clients) k (option_map plain slot') (omega (arith, within, length-map clients (option_map plain)))) ∙ ap (open_client (set (plain_clients clients) k (option_map plain slot'))) (sym same) ∙ now in
-          subst (λ n. IsToldFor desk c (connection' n).sent) (sym same) (next c here)
-      | inr other ↦
-          subst (IsToldFor desk c) (sym (ap (λ r. r.sent) (others d other))) (told d c (sym (open_other (plain_clients clients) k d (option_map plain slot') other) ∙ now))
-    ]
-
--- what is kept of the connection that stands there
-pub told_here : (connection : ℕ → ConnectionRecord) (desk : List Window) (clients : List (Option ClientSeen)) (k : ℕ) (slot : Option ClientSeen) → AreTold connection desk (plain_clients clients)
-    → k < length clients → slot ≡ get_or clients k slot → IsToldSlot desk slot (connection k).sent
-told_here connection desk clients k slot told within here = λ c is. told k c (open_at clients k slot within here ∙ is)
-
--- nothing changed but the provider, which tells the same bytes
-pub told_same : (connection connection' : ℕ → ConnectionRecord) (desk : List Window) (clients : List (Option ClientSeen)) → AllStay connection connection' → AreTold connection desk clients → AreTold connection' desk clients
-told_same connection connection' desk clients stay told = λ k c is. subst (IsToldFor desk c) (sym (ap (λ r. r.sent) (stay k))) (told k c is)
-
-open_mapped : (f : ClientSeen → ClientSeen) (clients : List (Option ClientSeen)) (k : ℕ) → open_client (map (option_map f) clients) k ≡ option_map f (open_client clients k)
-open_mapped f [] k = refl
-open_mapped f (c ∷ clients) zero = refl
-open_mapped f (c ∷ clients) (suc k) = open_mapped f clients k
-
--- each connection was changed, and the provider tells the same bytes
-pub told_all : (connection : ℕ → ConnectionRecord) (desk desk' : List Window) (f : ClientSeen → ClientSeen) (clients : List (Option ClientSeen)) → ((c : ClientSeen) (sent : List ℕ) → IsTold desk c sent → IsTold desk' (f c) sent)
-    → AreTold connection desk clients → AreTold connection desk' (map (option_map f) clients)
-told_all connection desk desk' f clients step told = λ k c is. go k c (open_client clients k) refl (sym (open_mapped f clients k) ∙ is)
-  where
-    where_told : (c : ClientSeen) (sent : Option (List ℕ)) → IsToldFor desk c sent → IsToldFor desk' (f c) sent
-    where_told c None told = (told.0, step c told.0 told.1)
-    where_told c (Some sent) told = step c sent told
-
-    go : (k : ℕ) (c : ClientSeen) (o : Option ClientSeen) → open_client clients k ≡ o → option_map f o ≡ Some c → IsToldFor desk' c (connection k).sent
-    go k c None here is = absurd (cc is)
-    go k c (Some d) here is = subst (λ (e : ClientSeen). IsToldFor desk' e (connection k).sent) (some_same (f d) c is) (where_told d (connection k).sent (told k d here))
-
-open_pushed : (clients : List (Option ClientSeen)) (slot : Option ClientSeen) (k : ℕ) → k ≢ length clients → open_client (clients ++ slot ∷ []) k ≡ open_client clients k
-open_pushed [] slot zero other = absurd (other refl)
-open_pushed [] slot (suc k) other = refl
-open_pushed (c ∷ clients) slot zero other = refl
-open_pushed (c ∷ clients) slot (suc k) other = open_pushed clients slot k (λ same. other (ap (λ n. suc n) same))
-
-open_last : (clients : List (Option ClientSeen)) (slot : Option ClientSeen) → open_client (clients ++ slot ∷ []) (length clients) ≡ slot
-open_last [] slot = refl
-open_last (c ∷ clients) slot = open_last clients slot
-
--- a connection was accepted
-pub told_accepted : (connection connection' : ℕ → ConnectionRecord) (tells : Bool) (desk : List Window) (clients : List (Option ClientSeen)) (c : ClientSeen) → plain c ≡ fresh_client → AreTold connection desk (plain_clients clients)
-    → OthersStay connection connection' (length clients) → connection' (length clients) ≡ fresh_connection tells → AreTold connection' desk (plain_clients (clients ++ Some c ∷ []))
-told_accepted connection connection' tells desk clients c new told others fresh = λ k d is.
-    let now : open_client (plain_clients clients ++ Some (plain c) ∷ []) k ≡ Some d = ap (λ cs. open_client cs k) (sym (map-append (option_map plain) clients (Some c ∷ []))) ∙ is in
-    let count : length (plain_clients clients) ≡ length clients = length-map clients (option_map plain) in
-    elim (cases_eq k (length clients)) [
-      | inl same ↦
-          let here : plain c ≡ d = some_same (plain c) d (sym (ap (open_client (plain_clients clients ++ Some (plain c) ∷ [])) (same ∙ sym count) ∙ open_last (plain_clients clients) (Some (plain c))) ∙ now) in
-          subst (λ n. IsToldFor desk d (connection' n).sent) (sym same)
-          (subst (λ r. IsToldFor desk d r.sent) (sym fresh)
-          (subst (λ (e : ClientSeen). IsToldFor desk e (told_empty tells)) (sym new ∙ here) (first tells)))
-      | inr other ↦
-          subst (IsToldFor desk d) (sym (ap (λ r. r.sent) (others k other)))
-          (told k d (sym (open_pushed (plain_clients clients) (Some (plain c)) k (λ same. other (same ∙ count))) ∙ now))
-    ]
-  where
-    first : (tells : Bool) → IsToldFor desk fresh_client (told_empty tells)
-    first true = told_fresh desk
-    first false = ([], told_fresh desk)
-
--- the bytes sent are the same
-pub same_sent : (desk : List Window) (slot : Option ClientSeen) (was now : Option (List ℕ)) → now ≡ was → IsToldSlot desk slot was → IsToldSlot desk slot now
-same_sent desk slot was now same told = λ c is. subst (IsToldFor desk c) (sym same) (told c is)
-
--- of a slot that is empty nothing is kept
-pub told_none : (desk : List Window) (sent : Option (List ℕ)) → IsToldSlot desk None sent
-told_none desk sent = λ c is. absurd (cc is)
-
 -- a write that took some
-took_some : (desk : List Window) (most n : ℕ) (sent : List ℕ) (c : ClientSeen) (packets : List Packet) → c.packets ≡ packets → c.packets ≢ [] → n ≤ length (offered most c) → IsTold desk c sent
-    → IsTold desk (taken_more n c) (sent ++ take n (offered most c))
-took_some desk most n sent c [] are some low told = absurd (some are)
-took_some desk most n sent c (p ∷ packets) are some low told = go (cases_lt (c.taken + n) (front_size c.packets))
-  where
-    rest_is : front_rest c.packets c.taken ≡ drop c.taken p.bytes
-    rest_is = ap (λ ps. front_rest ps c.taken) are
-
-    size_is : front_size c.packets ≡ length p.bytes
-    size_is = ap front_size are
-
-    offered_size : length (offered most c) ≡ min most (length p.bytes - c.taken)
-    offered_size = length-take most (front_rest c.packets c.taken) ∙ ap (λ bs. min most (length bs)) rest_is ∙ ap (min most) (length-drop c.taken p.bytes)
-
-    part : c.taken < length p.bytes
-    part = subst (λ (ps : List Packet). IsTaken ps c.taken) are told.part
-
-    within : n ≤ most
-    within = omega (arith, low, offered_size)
-
-    greeted : (b : Bool) → c.greeted ≡ b → c.greeted ≡ true
-    greeted true is = is
-    greeted false is = absurd (some (told.unspoken is))
-
-    go : ((c.taken + n) < front_size c.packets) ⊎ (front_size c.packets ≤ c.taken + n) → IsTold desk (taken_more n c) (sent ++ take n (offered most c))
-    go (inl short) =
-        let test : nat_lt (c.taken + n) (front_size c.packets) ≡ true = grind (arith, nat_tests, short) in
-        subst (λ (d : ClientSeen). IsTold desk d (sent ++ take n (offered most c))) (sym (cond-true _ _ _ test)) (told_part desk c sent n most within short told)
-    go (inr past) =
-        let test : nat_lt (c.taken + n) (front_size c.packets) ≡ false = grind (arith, nat_tests, past) in
-        let all : c.taken + n ≡ length p.bytes = omega (arith, low, offered_size, past, size_is, part) in
-        let whole = told_whole desk c sent n most p packets within (greeted c.greeted refl) are all told in
-        subst (λ (d : ClientSeen). IsTold desk d (sent ++ take n (offered most c))) (sym (cond-false _ _ _ test))
-        (subst (λ (ps : List Packet). IsTold desk (record c { packets = drop 1 ps; taken = 0 }) (sent ++ take n (offered most c))) (sym are)
-        (subst (λ (bs : List ℕ). IsTold desk (record c { packets = packets; taken = 0 }) (sent ++ take n (take most bs))) (sym rest_is) whole))
-
 took_told : (desk : List Window) (most n : ℕ) (was now : Option (List ℕ)) (c : ClientSeen) → n ≤ length (offered most c) → c.packets ≢ [] → now ≡ told_append was (take n (offered most c)) → IsToldFor desk c was
     → IsToldFor desk (taken_more n c) now
 took_told desk most n None now c low some is told =
-    subst (IsToldFor desk (taken_more n c)) (sym is) (told.0 ++ take n (offered most c), took_some desk most n told.0 c c.packets refl some low told.1)
-took_told desk most n (Some sent) now c low some is told = subst (IsToldFor desk (taken_more n c)) (sym is) (took_some desk most n sent c c.packets refl some low told)
+    subst (IsToldFor desk (taken_more n c)) (sym is) (told.0 ++ take n (offered most c), wrote_some desk most n told.0 c c.packets refl some low told.1)
+took_told desk most n (Some sent) now c low some is told = subst (IsToldFor desk (taken_more n c)) (sym is) (wrote_some desk most n sent c c.packets refl some low told)
 
 -- a write that took nothing
 nothing_told : (desk : List Window) (was now : Option (List ℕ)) (c : ClientSeen) → now ≡ told_append was [] → IsToldFor desk c was → IsToldFor desk c now
@@ -190,18 +65,6 @@ writes_told desk most was now c c' S.Again writes told =
 writes_told desk most was now c c' (S.Ended ended) writes told = absurd writes
 writes_told desk most was now c c' S.NoMemory writes told =
     subst (λ (d : ClientSeen). IsToldFor desk d now.sent) (sym writes.2) (subst (IsToldFor desk c) (sym (ap (λ r. r.sent) writes.1)) told)
-
-pub slot_written : (desk : List Window) (most : ℕ) (was now : ConnectionRecord) (slot slot' : Option ClientSeen) (answer : Sent) → WritesSlot most was now (option_map plain slot) answer (option_map plain slot')
-    → IsToldSlot desk slot was.sent → IsToldSlot desk slot' now.sent
-slot_written desk most was now None slot' answer writes told = λ c is. absurd (cc (sym writes.2 ∙ is))
-slot_written desk most was now (Some c) slot' answer writes told = λ d is.
-    subst (λ (e : ClientSeen). IsToldFor desk e now.sent) (some_same writes.0 d (sym writes.2 ∙ is)) (writes_told desk most was now (plain c) writes.0 answer writes.1 (told (plain c) refl))
-
--- a write that failed took nothing
-pub slot_failed : (desk : List Window) (most : ℕ) (was now : ConnectionRecord) (slot slot' : Option ClientSeen) → FailsSlot most was now (option_map plain slot) → option_map plain slot' ≡ option_map plain slot
-    → IsToldSlot desk slot was.sent → IsToldSlot desk slot' now.sent
-slot_failed desk most was now None slot' fails same told = absurd fails
-slot_failed desk most was now (Some c) slot' fails same told = λ d is. subst (IsToldFor desk d) (sym (ap (λ r. r.sent) fails.1.1)) (told d (sym same ∙ is))
 
 -- a capture
 pub captures_told : (desk : List Window) (window : Window) (sent : List ℕ) (c c' : ClientSeen) (answer : Captured) → IsWindow window → find_window desk window.wid ≡ Some window → CapturesWindow window c answer c'
@@ -228,13 +91,6 @@ captured_where : (desk : List Window) (window : Window) (sent : Option (List ℕ
     → IsToldFor desk c sent → IsToldFor desk c' sent
 captured_where desk window None c c' answer is found captures told = (told.0, captures_told desk window told.0 c c' answer is found captures told.1)
 captured_where desk window (Some sent) c c' answer is found captures told = captures_told desk window sent c c' answer is found captures told
-
-pub slot_captured : (desk : List Window) (window : Window) (sent : Option (List ℕ)) (slot slot' : Option ClientSeen) (answer : Captured) → IsWindow window → find_window desk window.wid ≡ Some window
-    → CapturesSlot window (option_map plain slot) answer (option_map plain slot') → IsToldSlot desk slot sent → IsToldSlot desk slot' sent
-slot_captured desk window sent None slot' answer is found captures told = λ c now. absurd (cc (sym captures.1 ∙ now))
-slot_captured desk window sent (Some c) slot' answer is found captures told = λ d now.
-    subst (λ (e : ClientSeen). IsToldFor desk e sent) (some_same captures.0 d (sym captures.2 ∙ now))
-    (captured_where desk window sent (plain c) captures.0 answer is found captures.1 (told (plain c) refl))
 
 -- so many maps
 maps_told : (desk : List Window) (sent : List ℕ) (o : Option Geometry) (count : ℕ) (rest : List ℕ) (c : ClientSeen) → IsTold desk c sent → IsTold desk (after_maps o count rest c) sent
@@ -263,64 +119,129 @@ heard_where : (lines : List Paint) (desk : List Window) (sent : Option (List ℕ
 heard_where lines desk None bytes c c' is hears told = (told.0, hears_told lines desk told.0 bytes c c' is hears told.1)
 heard_where lines desk (Some sent) bytes c c' is hears told = hears_told lines desk sent bytes c c' is hears told
 
-pub slot_heard : (lines : List Paint) (desk : List Window) (sent : Option (List ℕ)) (bytes : List ℕ) (slot slot' : Option ClientSeen) → IsDesktop desk → HearsSlot lines desk (option_map plain slot) bytes (option_map plain slot')
-    → IsToldSlot desk slot sent → IsToldSlot desk slot' sent
-slot_heard lines desk sent bytes None slot' is hears told = λ c now. absurd (cc (sym hears ∙ now))
-slot_heard lines desk sent bytes (Some c) slot' is hears told = λ d now.
-    subst (λ (e : ClientSeen). IsToldFor desk e sent) (some_same hears.0 d (sym hears.2 ∙ now)) (heard_where lines desk sent bytes (plain c) hears.0 is hears.1 (told (plain c) refl))
+-- what is kept of a client and its connection
+abbrev pub IsKeptOf : Bool → List Paint → List Window → ClientSeen → ConnectionRecord → Type 0
+IsKeptOf tells lines desk c r = IsToldFor desk c r.sent × IsKnown tells lines desk c r
 
--- a client that heard what is not built
-no_more_told : (desk : List Window) (sent : List ℕ) (c c' : ClientSeen) → IsDesktop desk → HearsNoMore desk c c' → IsTold desk c sent → IsTold desk c' sent
-no_more_told desk sent c c' is (maps, unread, inl same) told = subst (λ (d : ClientSeen). IsTold desk d sent) (sym same) (told_read desk c sent maps unread told)
-no_more_told desk sent c c' is (maps, unread, inr new) told = subst (λ (d : ClientSeen). IsTold desk d sent) (sym new.1) (told_attached desk c sent maps unread is new.0 told)
+pub slot_written : (tells : Bool) (lines : List Paint) (desk : List Window) (most : ℕ) (was now : ConnectionRecord) (slot slot' : Option ClientSeen) (answer : Sent) → WritesSlot most was now (option_map plain slot) answer (option_map plain slot')
+    → InSlot (IsKeptOf tells lines desk) slot was → InSlot (IsKeptOf tells lines desk) slot' now
+slot_written tells lines desk most was now None slot' answer writes kept = λ c is. absurd (cc (sym writes.2 ∙ is))
+slot_written tells lines desk most was now (Some c) slot' answer writes kept = λ d is.
+    let before = kept (plain c) refl in
+    subst (λ (e : ClientSeen). IsKeptOf tells lines desk e now) (some_same writes.0 d (sym writes.2 ∙ is))
+    (writes_told desk most was now (plain c) writes.0 answer writes.1 before.0, writes_known tells lines desk most was now (plain c) writes.0 answer writes.1 before.0 before.1)
 
-no_more_where : (desk : List Window) (sent : Option (List ℕ)) (c c' : ClientSeen) → IsDesktop desk → HearsNoMore desk c c' → IsToldFor desk c sent → IsToldFor desk c' sent
-no_more_where desk None c c' is hears told = (told.0, no_more_told desk told.0 c c' is hears told.1)
-no_more_where desk (Some sent) c c' is hears told = no_more_told desk sent c c' is hears told
+-- the same bytes were sent and given, at the same times
+pub slot_same : (tells : Bool) (lines : List Paint) (desk : List Window) (was now : ConnectionRecord) (slot slot' : Option ClientSeen) → option_map plain slot' ≡ option_map plain slot
+    → now.sent ≡ was.sent → now.given ≡ was.given → now.heard ≡ was.heard → InSlot (IsKeptOf tells lines desk) slot was → InSlot (IsKeptOf tells lines desk) slot' now
+slot_same tells lines desk was now slot slot' same sent given heard kept = λ c is.
+    let before = kept c (sym same ∙ is) in
+    (subst (IsToldFor desk c) (sym sent) before.0, known_same tells lines desk c was now sent given heard before.1)
 
-pub slot_no_more : (desk : List Window) (sent : Option (List ℕ)) (slot slot' : Option ClientSeen) → IsDesktop desk → HearsNoMoreSlot desk (option_map plain slot) (option_map plain slot') → IsToldSlot desk slot sent → IsToldSlot desk slot' sent
-slot_no_more desk sent None slot' is hears told = λ c now. absurd (cc (sym hears ∙ now))
-slot_no_more desk sent (Some c) slot' is hears told = λ d now.
-    subst (λ (e : ClientSeen). IsToldFor desk e sent) (some_same hears.0 d (sym hears.2 ∙ now)) (no_more_where desk sent (plain c) hears.0 is hears.1 (told (plain c) refl))
+-- a write that failed took nothing
+pub slot_failed : (tells : Bool) (lines : List Paint) (desk : List Window) (most : ℕ) (was now : ConnectionRecord) (slot slot' : Option ClientSeen) → FailsSlot most was now (option_map plain slot) → option_map plain slot' ≡ option_map plain slot
+    → InSlot (IsKeptOf tells lines desk) slot was → InSlot (IsKeptOf tells lines desk) slot' now
+slot_failed tells lines desk most was now None slot' fails same kept = absurd fails
+slot_failed tells lines desk most was now (Some c) slot' fails same kept =
+    slot_same tells lines desk was now (Some c) slot' same (ap (λ r. r.sent) fails.1.1) (ap (λ r. r.given) fails.1.1) (ap (λ r. r.heard) fails.1.1) kept
 
--- a session that has no connection yet
-pub nobody_told : (connection : ℕ → ConnectionRecord) (desk : List Window) (clients : List (Option ClientSeen)) → clients ≡ [] → AreTold connection desk (plain_clients clients)
-nobody_told connection desk clients none = subst (λ (cs : List (Option ClientSeen)). AreTold connection desk (plain_clients cs)) (sym none) (λ k c is. absurd (cc is))
+pub slot_captured : (tells : Bool) (lines : List Paint) (desk : List Window) (window : Window) (r : ConnectionRecord) (slot slot' : Option ClientSeen) (answer : Captured) → IsWindow window → find_window desk window.wid ≡ Some window
+    → CapturesSlot window (option_map plain slot) answer (option_map plain slot') → InSlot (IsKeptOf tells lines desk) slot r → InSlot (IsKeptOf tells lines desk) slot' r
+slot_captured tells lines desk window r None slot' answer is found captures kept = λ c now. absurd (cc (sym captures.1 ∙ now))
+slot_captured tells lines desk window r (Some c) slot' answer is found captures kept = λ d now.
+    let before = kept (plain c) refl in
+    subst (λ (e : ClientSeen). IsKeptOf tells lines desk e r) (some_same captures.0 d (sym captures.2 ∙ now))
+    (captured_where desk window r.sent (plain c) captures.0 answer is found captures.1 before.0, captures_known tells lines desk window r (plain c) captures.0 answer captures.1 before.1)
 
--- nobody was accepted: the connections that were handed out stay
-open_within : (clients : List (Option ClientSeen)) (k : ℕ) (c : ClientSeen) → open_client clients k ≡ Some c → k < length clients
-open_within [] k c is = absurd (cc is)
-open_within (d ∷ clients) zero c is = omega arith
-open_within (d ∷ clients) (suc k) c is = omega (arith, open_within clients k c is)
+pub slot_heard : (tells : Bool) (lines : List Paint) (desk : List Window) (bytes : List ℕ) (was now : ConnectionRecord) (slot slot' : Option ClientSeen) → IsDesktop desk → now ≡ record was { given = told_append was.given bytes }
+    → HearsSlot lines desk (option_map plain slot) bytes (option_map plain slot') → InSlot (IsKeptOf tells lines desk) slot was → InSlot (IsKeptOf tells lines desk) slot' now
+slot_heard tells lines desk bytes was now None slot' is gave hears kept = λ c at. absurd (cc (sym hears ∙ at))
+slot_heard tells lines desk bytes was now (Some c) slot' is gave hears kept = λ d at.
+    let before = kept (plain c) refl in
+    subst (λ (e : ClientSeen). IsKeptOf tells lines desk e now) (some_same hears.0 d (sym hears.2 ∙ at)) (
+      subst (IsToldFor desk hears.0) (sym (ap (λ (r : ConnectionRecord). r.sent) gave)) (heard_where lines desk was.sent bytes (plain c) hears.0 is hears.1 before.0),
+      hears_known tells lines desk bytes was now (plain c) hears.0 gave hears.1 before.0 before.1,
+    )
 
-pub told_others : (connection connection' : ℕ → ConnectionRecord) (desk : List Window) (clients : List (Option ClientSeen)) (count : ℕ) → length clients ≡ count → OthersStay connection connection' count
-    → AreTold connection desk (plain_clients clients) → AreTold connection' desk (plain_clients clients)
-told_others connection connection' desk clients count known others told = λ k c is.
-    let other : k ≢ count = omega (arith, open_within (plain_clients clients) k c is, length-map clients (option_map plain), known) in
-    subst (IsToldFor desk c) (sym (ap (λ r. r.sent) (others k other))) (told k c is)
+-- one connection is as it is now, and the others stay
+pub steady_slot : {tells : Bool} {connection : ℕ → ConnectionRecord} {lines : List Paint} {place : ℕ} {desk : List Window} {clients : List (Option ClientSeen)} {ends : List End} {count : ℕ}
+    (connection' : ℕ → ConnectionRecord) (k : ℕ) (slot slot' : Option ClientSeen) (count' : ℕ) → IsSteady tells connection lines place desk clients ends count
+    → k < length clients → slot ≡ get_or clients k slot → is_some slot' ≡ is_some slot → count' ≡ count → OthersStay connection connection' k
+    → (InSlot (IsKeptOf tells lines desk) slot (connection k) → InSlot (IsKeptOf tells lines desk) slot' (connection' k))
+    → IsSteady tells connection' lines place desk (set clients k slot') ends count'
+steady_slot {tells} {connection} {lines} {place} {desk} {clients} {ends} {count} connection' k slot slot' count' s within here same counted others step =
+    let kept = each_slot (IsKeptOf tells lines desk) connection connection' clients k slot' (λ d c is. (s.told d c is, s.known d c is)) others within
+    (step (each_here (IsKeptOf tells lines desk) connection clients k slot (λ d c is. (s.told d c is, s.known d c is)) within here)) in
+    record {
+      session = session_slot k slot slot' count' s.session here same counted;
+      told = λ d c is. (kept d c is).0;
+      known = λ d c is. (kept d c is).1;
+    }
+
+-- one connection has ended
+pub steady_ended : {tells : Bool} {connection : ℕ → ConnectionRecord} {lines : List Paint} {place : ℕ} {desk : List Window} {clients : List (Option ClientSeen)} {ends : List End} {count : ℕ}
+    (connection' : ℕ → ConnectionRecord) (k : ℕ) (e : End) (count' : ℕ) → IsSteady tells connection lines place desk clients ends count
+    → k < length clients → is_unended e ≡ false → count' ≡ count → OthersStay connection connection' k → IsSteady tells connection' lines place desk (set clients k None) (set ends k e) count'
+steady_ended {tells} {connection} {lines} {place} {desk} {clients} {ends} {count} connection' k e count' s within closed counted others =
+    let kept = each_slot (IsKeptOf tells lines desk) connection connection' clients k None (λ d c is. (s.told d c is, s.known d c is)) others within (each_none (IsKeptOf tells lines desk) (connection' k)) in
+    record {
+      session = session_ended k e count' s.session closed counted;
+      told = λ d c is. (kept d c is).0;
+      known = λ d c is. (kept d c is).1;
+    }
+
+-- nothing that is kept changed, and on one connection the provider tells the same bytes
+pub steady_quiet : {tells : Bool} {connection : ℕ → ConnectionRecord} {lines : List Paint} {place : ℕ} {desk : List Window} {clients : List (Option ClientSeen)} {ends : List End} {count : ℕ}
+    (connection' : ℕ → ConnectionRecord) (k count' : ℕ) → IsSteady tells connection lines place desk clients ends count → count' ≡ count → OthersStay connection connection' k
+    → (connection' k).sent ≡ (connection k).sent → (connection' k).given ≡ (connection k).given → (connection' k).heard ≡ (connection k).heard → IsSteady tells connection' lines place desk clients ends count'
+steady_quiet {tells} {connection} {lines} {place} {desk} {clients} {ends} {count} connection' k count' s counted others sent given heard =
+    subst (λ (n : ℕ). IsSteady tells connection' lines place desk clients ends n) (sym counted)
+    (record {
+      session = s.session;
+      told = λ d c is. elim (cases_eq d k) [
+        | inl same ↦ subst (λ n. IsToldFor desk c (connection' n).sent) (sym same) (subst (IsToldFor desk c) (sym sent) (subst (λ n. IsToldFor desk c (connection n).sent) same (s.told d c is)))
+        | inr other ↦ subst (λ r. IsToldFor desk c r.sent) (sym (others d other)) (s.told d c is)
+      ];
+      known = λ d c is. elim (cases_eq d k) [
+        | inl same ↦
+            subst (λ n. IsKnown tells lines desk c (connection' n)) (sym same)
+            (known_same tells lines desk c (connection k) (connection' k) sent given heard (subst (λ n. IsKnown tells lines desk c (connection n)) same (s.known d c is)))
+        | inr other ↦ subst (IsKnown tells lines desk c) (sym (others d other)) (s.known d c is)
+      ];
+    })
 
 -- nothing that is kept changed, and the provider tells the same bytes on what it handed out
-pub steady_same : {connection : ℕ → ConnectionRecord} {lines : List Paint} {place : ℕ} {desk : List Window} {clients : List (Option ClientSeen)} {ends : List End} {count : ℕ}
-    (connection' : ℕ → ConnectionRecord) (clients' : List (Option ClientSeen)) (ends' : List End) (count' : ℕ) → IsSteady connection lines place desk clients ends count
-    → clients' ≡ clients → ends' ≡ ends → count' ≡ count → OthersStay connection connection' count → IsSteady connection' lines place desk clients' ends' count'
-steady_same {connection} {lines} {place} {desk} {clients} {ends} {count} connection' clients' ends' count' s same still counted others =
-    subst (λ (n : ℕ). IsSteady connection' lines place desk clients' ends' n) (sym counted)
-    (subst (λ (es : List End). IsSteady connection' lines place desk clients' es count) (sym still)
-    (subst (λ (cs : List (Option ClientSeen)). IsSteady connection' lines place desk cs ends count) (sym same)
-    (record { session = s.session; told = told_others connection connection' desk clients count s.session.known others s.told })))
+pub steady_same : {tells : Bool} {connection : ℕ → ConnectionRecord} {lines : List Paint} {place : ℕ} {desk : List Window} {clients : List (Option ClientSeen)} {ends : List End} {count : ℕ}
+    (connection' : ℕ → ConnectionRecord) (clients' : List (Option ClientSeen)) (ends' : List End) (count' : ℕ) → IsSteady tells connection lines place desk clients ends count
+    → clients' ≡ clients → ends' ≡ ends → count' ≡ count → OthersStay connection connection' count → IsSteady tells connection' lines place desk clients' ends' count'
+steady_same {tells} {connection} {lines} {place} {desk} {clients} {ends} {count} connection' clients' ends' count' s same still counted others =
+    subst (λ (n : ℕ). IsSteady tells connection' lines place desk clients' ends' n) (sym counted)
+    (subst (λ (es : List End). IsSteady tells connection' lines place desk clients' es count) (sym still)
+    (subst (λ (cs : List (Option ClientSeen)). IsSteady tells connection' lines place desk cs ends count) (sym same)
+    (record {
+      session = s.session;
+      told = each_others (λ c r. IsToldFor desk c r.sent) connection connection' clients count s.session.known others s.told;
+      known = each_others (IsKnown tells lines desk) connection connection' clients count s.session.known others s.known;
+    })))
 
 -- a connection was accepted
-pub steady_accepted : {connection : ℕ → ConnectionRecord} {lines : List Paint} {place : ℕ} {desk : List Window} {clients : List (Option ClientSeen)} {ends : List End} {count : ℕ}
-    (connection' : ℕ → ConnectionRecord) (tells : Bool) (c : ClientSeen) (clients' : List (Option ClientSeen)) (ends' : List End) (count' : ℕ) → IsSteady connection lines place desk clients ends count
+fresh_told : (tells : Bool) (desk : List Window) → IsToldFor desk fresh_client (told_empty tells)
+fresh_told true desk = told_fresh desk
+fresh_told false desk = ([], told_fresh desk)
+
+pub steady_accepted : {tells : Bool} {connection : ℕ → ConnectionRecord} {lines : List Paint} {place : ℕ} {desk : List Window} {clients : List (Option ClientSeen)} {ends : List End} {count : ℕ}
+    (connection' : ℕ → ConnectionRecord) (c : ClientSeen) (clients' : List (Option ClientSeen)) (ends' : List End) (count' : ℕ) → IsSteady tells connection lines place desk clients ends count
     → plain c ≡ fresh_client → clients' ≡ clients ++ Some c ∷ [] → ends' ≡ ends ++ Unended ∷ [] → count' ≡ count + 1 → count' < 2 ^ 32
-    → OthersStay connection connection' count → connection' count ≡ fresh_connection tells → IsSteady connection' lines place desk clients' ends' count'
-steady_accepted {connection} {lines} {place} {desk} {clients} {ends} {count} connection' tells c clients' ends' count' s new more longer counted small others fresh =
-    subst (λ (es : List End). IsSteady connection' lines place desk clients' es count') (sym longer)
-    (subst (λ (cs : List (Option ClientSeen)). IsSteady connection' lines place desk cs (ends ++ Unended ∷ []) count') (sym more)
+    → OthersStay connection connection' count → connection' count ≡ fresh_connection tells → IsSteady tells connection' lines place desk clients' ends' count'
+steady_accepted {tells} {connection} {lines} {place} {desk} {clients} {ends} {count} connection' c clients' ends' count' s new more longer counted small others fresh =
+    let stay = subst (OthersStay connection connection') (sym s.session.known) others in
+    let there = ap connection' s.session.known ∙ fresh in
+    subst (λ (es : List End). IsSteady tells connection' lines place desk clients' es count') (sym longer)
+    (subst (λ (cs : List (Option ClientSeen)). IsSteady tells connection' lines place desk cs (ends ++ Unended ∷ []) count') (sym more)
     (record {
       session = session_accepted c count' s.session counted small;
-      told = told_accepted connection connection' tells desk clients c new s.told (subst (OthersStay connection connection') (sym s.session.known) others)
-          (ap connection' s.session.known ∙ fresh);
+      told = each_accepted (λ d r. IsToldFor desk d r.sent) connection connection' tells clients c new s.told stay there (fresh_told tells desk);
+      known = each_accepted (IsKnown tells lines desk) connection connection' tells clients c new s.known stay there (known_fresh tells lines desk);
     }))
 
 -- a paint line was applied to the desktop and for the client
@@ -334,19 +255,31 @@ line_told desk (Open wid x y w h) is may c sent told = told_opened desk c sent (
 }) may.new told
 line_told desk (Fill wid x y w h colour) is may c sent told = told_filled desk c sent wid (rectangle x y w h) colour is told
 
+line_where : (desk : List Window) (line : Paint) → IsDesktop desk → IsPaintOn desk line → (c : ClientSeen) (sent : Option (List ℕ)) → IsToldFor desk c sent → IsToldFor (painted desk line) (painted_client line c) sent
+line_where desk line is may c None told = (told.0, line_told desk line is may c told.0 told.1)
+line_where desk line is may c (Some sent) told = line_told desk line is may c sent told
+
 -- a paint line was applied to the desktop and for each client
-pub painted_told : (connection : ℕ → ConnectionRecord) (desk desk' : List Window) (line : Paint) (clients clients' : List (Option ClientSeen)) → IsDesktop desk → IsPaintOn desk line → desk' ≡ painted desk line
-    → plain_clients clients' ≡ map (option_map (painted_client line)) (plain_clients clients) → AreTold connection desk (plain_clients clients) → AreTold connection desk' (plain_clients clients')
-painted_told connection desk desk' line clients clients' is may after changed told =
-    subst (λ (ws : List Window). AreTold connection ws (plain_clients clients')) (sym after)
-    (subst (AreTold connection (painted desk line)) (sym changed) (told_all connection desk (painted desk line) (painted_client line) (plain_clients clients) (line_told desk line is may) told))
+pub steady_painted : {tells : Bool} {connection : ℕ → ConnectionRecord} {lines : List Paint} {place : ℕ} {desk : List Window} {clients : List (Option ClientSeen)} {ends : List End} {count : ℕ}
+    (line : Paint) (desk' : List Window) (clients' : List (Option ClientSeen)) → IsSteady tells connection lines place desk clients ends count → IsDesktop desk → IsPaintOn desk line
+    → Some line ≡ slice_get lines place → desk' ≡ painted desk line → desk' ≡ desk_at lines (place + 1) → plain_clients clients' ≡ map (option_map (painted_client line)) (plain_clients clients)
+    → IsSteady tells connection lines (place + 1) desk' clients' ends count
+steady_painted {tells} {connection} {lines} {place} {desk} {clients} {ends} {count} line desk' clients' s is may here after painted_is changed = record {
+  session = session_painted line (painted_client line) desk' clients' s.session here painted_is changed;
+  told = subst (λ (ws : List Window). AreTold connection ws (plain_clients clients')) (sym after)
+      (subst (AreTold connection (painted desk line)) (sym changed)
+      (each_all (λ c r. IsToldFor desk c r.sent) (λ c r. IsToldFor (painted desk line) c r.sent) connection (painted_client line) (plain_clients clients) (λ c r. line_where desk line is may c r.sent) s.told));
+  known = subst (λ (ws : List Window). AreKnown tells connection lines ws (plain_clients clients')) (sym after)
+      (subst (AreKnown tells connection lines (painted desk line)) (sym changed)
+      (each_all (IsKnown tells lines desk) (IsKnown tells lines (painted desk line)) connection (painted_client line) (plain_clients clients) (line_known tells lines desk line) s.known));
+}
 
 -- what is kept looks the same
-pub steady_plain : {connection : ℕ → ConnectionRecord} {lines : List Paint} {place : ℕ} {desk : List Window} {clients : List (Option ClientSeen)} {ends : List End} {count : ℕ}
-    (clients' : List (Option ClientSeen)) (desk' : List Window) → IsSteady connection lines place desk clients ends count → plain_clients clients' ≡ plain_clients clients → desk' ≡ desk
-    → IsSteady connection lines place desk' clients' ends count
-steady_plain {connection} {lines} {place} {desk} {clients} {ends} {count} clients' desk' s same still =
-    subst (λ (ws : List Window). IsSteady connection lines place ws clients' ends count) (sym still)
+pub steady_plain : {tells : Bool} {connection : ℕ → ConnectionRecord} {lines : List Paint} {place : ℕ} {desk : List Window} {clients : List (Option ClientSeen)} {ends : List End} {count : ℕ}
+    (clients' : List (Option ClientSeen)) (desk' : List Window) → IsSteady tells connection lines place desk clients ends count → plain_clients clients' ≡ plain_clients clients → desk' ≡ desk
+    → IsSteady tells connection lines place desk' clients' ends count
+steady_plain {tells} {connection} {lines} {place} {desk} {clients} {ends} {count} clients' desk' s same still =
+    subst (λ (ws : List Window). IsSteady tells connection lines place ws clients' ends count) (sym still)
     (record {
       session = record {
         within = s.session.within;
@@ -357,4 +290,10 @@ steady_plain {connection} {lines} {place} {desk} {clients} {ends} {count} client
         live = live_same clients clients' same ∙ s.session.live;
       };
       told = subst (AreTold connection desk) (sym same) s.told;
+      known = subst (AreKnown tells connection lines desk) (sym same) s.known;
     })
+
+-- an order hands nobody out
+pub order_count : (was now : ProviderRecord) (order : Order) (answer : Result (Unit {0}) NoMemory) → OrderGives was now order answer → now.count ≡ was.count
+order_count was now order (Ok done) gives = ap (λ (p : ProviderRecord). p.count) gives.1
+order_count was now order (Err none) gives = ap (λ (p : ProviderRecord). p.count) gives

@@ -23,7 +23,7 @@ use Rattle.session_core.specs.Steps.{Sends, SendsOne, Receives, ReceivesOne, Cap
 use Rattle.std.proofs.lemmas.List.{set-get_or, get_or_default}
 use Rattle.link_bay.specs.Answers.{ReadGives}
 use Rattle.link_bay.specs.declared.bay.Gave.TheVariants as G
-use Rattle.session_core.proofs.Slots.{get_or-plain}
+use Rattle.session_core.proofs.Slots.{plain_clients-set, get_or-plain}
 use Rattle.session_core.proofs.Lives.{open_at, clients_now, clients_gone}
 
 -- a session with these clients and this provider
@@ -179,3 +179,15 @@ captures_none lines place desk ends clients bay k wid within some missing =
       subst (λ o. MatchOption o ((C.Closed ≡ C.Closed) × (plain c ≡ plain c)) (λ w. CapturesWindow w (plain c) C.Closed (plain c))) (sym missing) (refl, refl),
       ap (λ cs. seen lines place desk ends cs bay) (sym (still clients k c within here)),
     )
+
+-- a connection was ended in its slot, in the list of ends and at the provider
+pub dropped_is : {B : Type 0} (lines : List Paint) (place : ℕ) (desk : List Window) (ends ends' : List End) (clients clients' : List (Option ClientSeen)) (bay bay' : B) (k : ℕ) (e : End) → clients' ≡ set clients k None → ends' ≡ set ends k e
+    → seen lines place desk ends' (plain_clients clients') bay' ≡ with_end k e bay' (seen lines place desk ends (plain_clients clients) bay)
+dropped_is lines place desk ends ends' clients clients' bay bay' k e gone ended = λ i. record {
+  lines = lines;
+  place = place;
+  desk = desk;
+  clients = (ap plain_clients gone ∙ plain_clients-set clients k None) i;
+  ends = ended i;
+  bay = bay';
+}

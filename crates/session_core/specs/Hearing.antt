@@ -78,13 +78,3 @@ IsUnbuilt lines desk c bytes = (c' : ClientSeen) → Hears lines desk c bytes c'
 abbrev pub HearsSlot : List Paint → List Window → Option ClientSeen → List ℕ → Option ClientSeen → Type 0
 HearsSlot lines desk None bytes slot' = slot' ≡ None
 HearsSlot lines desk (Some c) bytes slot' = (c' : ClientSeen) × Hears lines desk c bytes c' × (slot' ≡ Some c')
-
--- what is left of a client that said what is not built, or for which memory was wanting: it is as it was, or its hello was
--- accepted, but for the bytes that are not handled
-abbrev pub HearsNoMore : List Window → ClientSeen → ClientSeen → Type 0
-HearsNoMore desk c c' = (maps : ℕ) × (unread : List ℕ)
-    × ((c' ≡ record c { maps = maps; unread = unread }) ⊎ ((c.greeted ≡ false) × (c' ≡ record (attached desk c) { maps = maps; unread = unread })))
-
-abbrev pub HearsNoMoreSlot : List Window → Option ClientSeen → Option ClientSeen → Type 0
-HearsNoMoreSlot desk None slot' = slot' ≡ None
-HearsNoMoreSlot desk (Some c) slot' = (c' : ClientSeen) × HearsNoMore desk c c' × (slot' ≡ Some c')

@@ -16,3 +16,7 @@ pub mod Owed
 pub mod Shown
 pub mod Changes
 pub mod Calm
+pub mod Given
+pub mod Mapped
+pub mod Causes
+pub mod Settling

@@ -1,8 +1,7 @@
 -- A write to a connection that is open: what of the first packet is left, or as much of it as may be offered.
-use Rattle.std.specs.Prelude.{ℕ, ◌≤◌, ◌≡◌, ◌≢◌, Option, Some, None, List, [], take}
-use Rattle.xp_base.specs.Counts.{Rose}
+use Rattle.std.specs.Prelude.{ℕ, ◌≤◌, ◌≡◌, ◌≢◌, true, Option, Some, None, List, [], take}
 use Rattle.link_bay.specs.Connections.{ConnectionRecord}
-use Rattle.link_bay.specs.Answers.{WriteGives}
+use Rattle.link_bay.specs.Answers.{WriteGives, is_dry}
 use Rattle.link_bay.specs.declared.bay.Wrote.TheVariants as W
 use Rattle.session_core.specs.declared.answers.Sent.{Sent}
 use Rattle.session_core.specs.declared.ends.End.{End}
@@ -19,7 +18,7 @@ abbrev pub Writes : ℕ → ConnectionRecord → ConnectionRecord → ClientSeen
 Writes most was now c S.Closed c' = ⊥
 Writes most was now c S.Idle c' = (c.packets ≡ []) × (now ≡ was) × (c' ≡ c)
 Writes most was now c (S.Took n) c' = (1 ≤ n) × (c.packets ≢ []) × WriteGives was now (offered most c) (W.Took n) × (c' ≡ taken_more n c)
-Writes most was now c S.Again c' = (c.packets ≢ []) × WriteGives was now (offered most c) (W.Took 0) × Rose was.dry now.dry × (c' ≡ c)
+Writes most was now c S.Again c' = (c.packets ≢ []) × WriteGives was now (offered most c) (W.Took 0) × (is_dry (offered most c) 0 ≡ true) × (c' ≡ c)
 Writes most was now c (S.Ended ended) c' = ⊥
 Writes most was now c S.NoMemory c' = (c.packets ≢ []) × WriteGives was now (offered most c) W.NoMemory × (c' ≡ c)
 

@@ -1,5 +1,5 @@
 -- What every session keeps, of its windows and of each connection that is open.
-use Rattle.std.specs.Prelude.{ℕ, Option, List}
+use Rattle.std.specs.Prelude.{ℕ, Bool, Option, List}
 use Rattle.link_bay.specs.Connections.{ConnectionRecord}
 use Rattle.window_model.specs.Desktop.{Window}
 use Rattle.paint_script.specs.declared.paint.Paint.{Paint}
@@ -7,7 +7,9 @@ use Rattle.session_core.specs.declared.ends.End.{End}
 use Rattle.session_core.specs.Clients.{ClientSeen, plain_clients}
 use Rattle.session_core.specs.State.{IsSession}
 use Rattle.session_core.specs.Told.{AreTold}
+use Rattle.session_core.specs.Given.{AreKnown}
 
-pub record IsSteady (connection : ℕ → ConnectionRecord) (lines : List Paint) (place : ℕ) (desk : List Window) (clients : List (Option ClientSeen)) (ends : List End) (count : ℕ) : Type 0 where
+pub record IsSteady (tells : Bool) (connection : ℕ → ConnectionRecord) (lines : List Paint) (place : ℕ) (desk : List Window) (clients : List (Option ClientSeen)) (ends : List End) (count : ℕ) : Type 0 where
   pub session : IsSession lines place desk clients ends count
   pub told : AreTold connection desk (plain_clients clients)
+  pub known : AreKnown tells connection lines desk (plain_clients clients)

@@ -3,11 +3,12 @@
 /// How a connection ended.
 #[derive(Clone, Copy, Debug, PartialEq, Eq)]
 pub enum End {
-    /// It shows the last windows.
+    /// It shows exactly the last windows, and all that it said was read.
     Settled,
-    /// It said or did what is not built yet.
+    /// A read or a write of it failed, a read met its end, 1,000 writes in a row took nothing, or it said
+    /// what is not built yet or no whole hello.
     Unbuilt,
-    /// There was no memory for it.
+    /// There was no memory for it, or no number for a further draw.
     Short,
     /// It was open when the run stopped.
     Unended,

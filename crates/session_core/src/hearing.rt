@@ -94,7 +94,7 @@ fn script_window(paints: &[Paint]) -> Option<Geometry>
 
 impl Client {
     ghost use Rattle.session_core.specs.Clients.{attached};
-    ghost use Rattle.session_core.specs.Hearing.{Hears, HearsMaps, HearsNoMore, IsUnbuilt};
+    ghost use Rattle.session_core.specs.Hearing.{Hears, HearsMaps, IsUnbuilt};
 
     /// Takes what the client said, and handles each packet that is whole.
     #[tactic(auto, using(crate::proofs::Heard::hears_on, crate::proofs::Heard::unhears_on, crate::proofs::Heard::hears_first, crate::proofs::Heard::unhears_first, crate::proofs::Heard::unhears_neither))]
@@ -107,7 +107,6 @@ impl Client {
     ) -> Result<(), Trouble>
         ensures ok { OnOk result (Hears paints.now desk.now (plain self.old) bytes.now (plain self.new)) }
         ensures unbuilt { result ≡ Err Trouble.Unbuilt → IsUnbuilt paints.now desk.now (plain self.old) bytes.now }
-        ensures left { OnErr result (HearsNoMore desk.now (plain self.old) (plain self.new)) }
     {
         let Ok(()) = self.unread.extend_from_slice(bytes) else {
             return Err(Trouble::NoMemory);

@@ -18,6 +18,7 @@ ghost use Rattle.session_core.specs.Changes.{
   PartsOwe,
 };
 ghost use Rattle.session_core.specs.Shown.{OwesWhatDiffers, WillShowTheDesktop, WindowsAreSteady};
+ghost use Rattle.session_core.specs.Mapped.{BuiltSaysMapsAlone};
 ghost use Rattle.session_core.specs.Told.{IsTold};
 
 /// After a rectangle was added a point is in the set where it was, or where it lies in the rectangle and
@@ -75,4 +76,11 @@ pub fn each_step_changes_owed_so()
     ensures write { WriteOwes }
     ensures fresh { FreshOwes }
     ensures parts { PartsOwe }
+{}
+
+/// What a client of the first path may say: bytes that are a front of an exact client's hello and a thousand maps
+/// of the script's window have, read as a client's talk is read, no fault, and their messages are maps of that
+/// window alone.
+pub fn what_is_built_says_maps_alone()
+    ensures { BuiltSaysMapsAlone }
 {}

@@ -33,8 +33,8 @@ pub use ends::End;
 pub use geometry::Geometry;
 pub use laws::{
     each_difference_is_owed, each_step_changes_owed_so, each_step_keeps_what_is_told,
-    rectangle_marked, taken_gone, waiting_draws_are_current, what_waits_lays_out_the_desktop,
-    whole_marked,
+    rectangle_marked, taken_gone, waiting_draws_are_current, what_is_built_says_maps_alone,
+    what_waits_lays_out_the_desktop, whole_marked,
 };
 pub use packet::{Announcement, Draw, Packet};
 pub use points::Points;

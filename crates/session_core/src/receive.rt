@@ -1,10 +1,10 @@
 // Reads.
-ghost use Rattle.std.specs.Prelude.{◌≡◌, ◌≤◌, ◌<◌, ◌↔◌, ℕ, false, IsTrue, IsSome, IsNone, IfSome, OnOk, OnErr, Err, length};
+ghost use Rattle.std.specs.Prelude.{◌≡◌, ◌≢◌, ◌≤◌, ◌<◌, ◌↔◌, ℕ, false, IsTrue, IsSome, None, IfSome, OnOk, Err, length, slice_set};
 ghost use Rattle.std.specs.Option.{option_map, is_some};
 ghost use Rattle.link_bay.specs.Connections.{OthersStay, AllStay};
 ghost use Rattle.session_core.specs.State.{open_client, is_unended};
 ghost use Rattle.session_core.specs.Clients.{plain};
-ghost use Rattle.session_core.specs.Hearing.{HearsSlot, HearsNoMoreSlot, IsUnbuilt};
+ghost use Rattle.session_core.specs.Hearing.{HearsSlot, IsUnbuilt};
 
 use crate::answers::Received;
 use crate::client::Client;
@@ -22,6 +22,7 @@ const READ_LIMIT: u32 = 4096;
 impl<B: Bay + Drop> Session<B> {
     ghost use Rattle.session_core.specs.State.{KeepsWindows, ends_with};
     ghost use Rattle.session_core.specs.Steps.{with_end, Receives, receive_ends};
+    ghost use Rattle.session_core.specs.Causes.{EndMeans};
 
     /// Reads once from the connection, and handles each packet that is then whole.
     pub fn receive(&mut self, c: Conn) -> Received
@@ -29,6 +30,8 @@ impl<B: Bay + Drop> Session<B> {
         ensures windows { KeepsWindows self.old self.new }
         ensures ends { self.new.ends ≡ ends_with (receive_ends result) c.0 self.old.ends }
         ensures ended { IfSome (receive_ends result) (λ e. is_unended e ≡ false) }
+        ensures unsettled { IfSome (receive_ends result) (λ e. e ≢ End.Settled) }
+        ensures means { IfSome (receive_ends result) (λ e. EndMeans self.new.lines self.new.desk e (B.connection self.new.bay c.0)) }
         ensures some { (n : ℕ) → result ≡ Received.Took n → 1 ≤ n }
         ensures others { OthersStay (B.connection self.old.bay) (B.connection self.new.bay) c.0 }
         ensures provider { B.provider self.new.bay ≡ B.provider self.old.bay }
@@ -38,6 +41,7 @@ impl<B: Bay + Drop> Session<B> {
             return Received::Closed;
         }
         let _count = self.desk.len();
+        let _lines = self.paints.len();
         let mut bytes = Vec::new(self.alloc);
         match self.bay.read(c, &mut bytes, READ_LIMIT) {
             Gave::Bytes(count) => {
@@ -52,38 +56,43 @@ impl<B: Bay + Drop> Session<B> {
                 match heard {
                     Ok(()) => Received::Took(count),
                     Err(trouble) => match trouble {
-                        Trouble::Unbuilt => self.end_unbuilt(c),
-                        Trouble::NoMemory => self.end_short(c),
+                        Trouble::Unbuilt => {
+                            end_client(
+                                &mut self.clients,
+                                &mut self.ends,
+                                &mut self.bay,
+                                c,
+                                End::Unbuilt,
+                            );
+                            Received::Ended(End::Unbuilt)
+                        }
+                        Trouble::NoMemory => {
+                            end_client(
+                                &mut self.clients,
+                                &mut self.ends,
+                                &mut self.bay,
+                                c,
+                                End::Short,
+                            );
+                            Received::NoMemory
+                        }
                     },
                 }
             }
             Gave::Again => Received::Again,
-            Gave::End => self.end_unbuilt(c),
-            Gave::Failed => self.end_unbuilt(c),
-            Gave::NoMemory => self.end_short(c),
+            Gave::End => {
+                self.drop_client(c, End::Unbuilt);
+                Received::Ended(End::Unbuilt)
+            }
+            Gave::Failed => {
+                self.drop_client(c, End::Unbuilt);
+                Received::Ended(End::Unbuilt)
+            }
+            Gave::NoMemory => {
+                self.drop_client(c, End::Short);
+                Received::NoMemory
+            }
         }
-    }
-
-    fn end_unbuilt(&mut self, c: Conn) -> Received
-        requires { c.0 < length self.old.clients }
-        ensures answer { result ≡ Received.Ended End.Unbuilt }
-        ensures session { self.new ≡ with_end c.0 End.Unbuilt self.new.bay self.old }
-        ensures connections { AllStay (B.connection self.old.bay) (B.connection self.new.bay) }
-        ensures provider { B.provider self.new.bay ≡ B.provider self.old.bay }
-    {
-        self.drop_client(c, End::Unbuilt);
-        Received::Ended(End::Unbuilt)
-    }
-
-    fn end_short(&mut self, c: Conn) -> Received
-        requires { c.0 < length self.old.clients }
-        ensures answer { result ≡ Received.NoMemory }
-        ensures session { self.new ≡ with_end c.0 End.Short self.new.bay self.old }
-        ensures connections { AllStay (B.connection self.old.bay) (B.connection self.new.bay) }
-        ensures provider { B.provider self.new.bay ≡ B.provider self.old.bay }
-    {
-        self.drop_client(c, End::Short);
-        Received::NoMemory
     }
 
     /// Ends the connection so: what is kept of it is dropped, and it is closed.
@@ -94,11 +103,29 @@ impl<B: Bay + Drop> Session<B> {
         ensures connections { AllStay (B.connection self.old.bay) (B.connection self.new.bay) }
         ensures provider { B.provider self.new.bay ≡ B.provider self.old.bay }
     {
-        let k = c.0 as usize;
-        self.clients[k] = None;
-        self.ends[k] = end;
-        self.bay.close(c);
+        end_client(&mut self.clients, &mut self.ends, &mut self.bay, c, end);
     }
+}
+
+fn end_client<B: Bay + Drop>(
+    clients: &mut Vec<Option<Client>>,
+    ends: &mut Vec<End>,
+    bay: &mut B,
+    c: Conn,
+    end: End,
+)
+    requires within { c.0 < length clients.old.items }
+    requires ends { c.0 < length ends.old.items }
+    requires known { c.0 < (B.provider bay.old).count }
+    ensures clients { clients.new.items ≡ slice_set clients.old.items c.0 None }
+    ensures ends { ends.new.items ≡ slice_set ends.old.items c.0 end }
+    ensures connections { AllStay (B.connection bay.old) (B.connection bay.new) }
+    ensures provider { B.provider bay.new ≡ B.provider bay.old }
+{
+    let k = c.0 as usize;
+    clients[k] = None;
+    ends[k] = end;
+    bay.close(c);
 }
 
 pub(crate) fn is_open(clients: &[Option<Client>], k: usize) -> bool
@@ -118,7 +145,6 @@ fn hear_slot(
     ensures kept { is_some slot.new ≡ is_some slot.old }
     ensures ok { OnOk result (HearsSlot paints.now desk.now (option_map plain slot.old) bytes.now (option_map plain slot.new)) }
     ensures unbuilt { result ≡ Err Trouble.Unbuilt → IfSome (option_map plain slot.old) (λ c. IsUnbuilt paints.now desk.now c bytes.now) }
-    ensures left { OnErr result (HearsNoMoreSlot desk.now (option_map plain slot.old) (option_map plain slot.new)) }
 {
     match slot {
         Some(client) => client.hear(alloc, bytes, paints, desk),

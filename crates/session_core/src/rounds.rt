@@ -1,8 +1,11 @@
 // What settles one connection: rounds of reading, capturing and writing.
-ghost use Rattle.std.specs.Prelude.{◌≡◌, ◌≤◌, IfOk, IfErr, OnOk, Ok, false};
+ghost use Rattle.std.specs.Prelude.{◌≡◌, ◌≢◌, ◌≤◌, ◌↔◌, IsSome, IsTrue, IfOk, IfErr, OnOk, Ok, false};
+ghost use Rattle.xp_base.specs.Counts.{Rose};
 ghost use Rattle.link_bay.specs.Connections.{OthersStay};
+ghost use Rattle.session_core.specs.Shown.{IsAttached as IsAttachedIn};
 
 use crate::answers::{Captured, Received, Sent};
+use crate::client::Client;
 use crate::ends::End;
 use crate::state::Session;
 use link_bay::Bay;
@@ -22,13 +25,20 @@ impl<B: Bay + Drop> Session<B> {
     ghost use Rattle.session_core.specs.Ends.{LeavesEnds, waiting_at, WritesLess};
     ghost use Rattle.session_core.specs.Shown.{IsAttached};
     ghost use Rattle.session_core.specs.Calm.{AreClean, IsCalm, WaitsForNothing, sources_in};
+    ghost use Rattle.session_core.specs.Causes.{EndMeans, HasWaited, ReadsStay, ReachesFlood};
+    ghost use Rattle.session_core.specs.Settling.{Acts};
 
     /// Reads, then captures, writes and reads again, until there was nothing to read after all was written.
     pub(crate) fn make_rounds(&mut self, c: Conn) -> Result<(), End>
+        requires open { IsSome (open_client self.old.clients c.0) }
         ensures windows { KeepsWindows self.old self.new }
         ensures calm { OnOk result (IsCalm self.new.desk (open_client self.new.clients c.0)) }
-        ensures heard { OnOk result ((B.connection self.new.bay c.0).unheard ≡ 0) }
+        ensures heard { OnOk result (HasWaited (B.connection self.new.bay c.0)) }
+        ensures waited { OnOk result (Rose (B.connection self.old.bay c.0).waits (B.connection self.new.bay c.0).waits) }
+        ensures unsettled { IfErr result (λ e. e ≢ End.Settled) }
+        ensures means { IfErr result (λ e. EndMeans self.new.lines self.new.desk e (B.connection self.new.bay c.0)) }
         ensures ends { LeavesEnds c.0 self.old.ends result self.new.ends }
+        ensures acts { Acts B.provider B.connection c.0 self.old self.new }
         ensures others { OthersStay (B.connection self.old.bay) (B.connection self.new.bay) c.0 }
         ensures provider { B.provider self.new.bay ≡ B.provider self.old.bay }
     {
@@ -46,10 +56,19 @@ impl<B: Bay + Drop> Session<B> {
 
     /// Reads until there is nothing to read. Answers how much less may be read.
     fn receive_all(&mut self, c: Conn, budget: u32) -> Result<u32, End>
+        requires open { IsSome (open_client self.old.clients c.0) }
+        requires near { ReachesFlood budget (B.connection self.old.bay c.0).given }
         ensures windows { KeepsWindows self.old self.new }
+        ensures open { OnOk result (IsSome (open_client self.new.clients c.0)) }
         ensures ends { LeavesEnds c.0 self.old.ends result self.new.ends }
         ensures less { IfOk result (λ left. left ≤ budget) }
-        ensures quiet { IfOk result (λ left. left ≡ budget → (self.new.clients ≡ self.old.clients) × ((B.connection self.new.bay c.0).unheard ≡ 0)) }
+        ensures near { IfOk result (λ left. ReachesFlood left (B.connection self.new.bay c.0).given) }
+        ensures quiet { IfOk result (λ left. left ≡ budget → self.new.clients ≡ self.old.clients) }
+        ensures heard { OnOk result (HasWaited (B.connection self.new.bay c.0)) }
+        ensures waited { OnOk result (Rose (B.connection self.old.bay c.0).waits (B.connection self.new.bay c.0).waits) }
+        ensures unsettled { IfErr result (λ e. e ≢ End.Settled) }
+        ensures means { IfErr result (λ e. EndMeans self.new.lines self.new.desk e (B.connection self.new.bay c.0)) }
+        ensures acts { Acts B.provider B.connection c.0 self.old self.new }
         ensures others { OthersStay (B.connection self.old.bay) (B.connection self.new.bay) c.0 }
         ensures provider { B.provider self.new.bay ≡ B.provider self.old.bay }
     {
@@ -58,12 +77,13 @@ impl<B: Bay + Drop> Session<B> {
             match self.receive(c) {
                 Received::Took(count) => {
                     if count > left {
+                        let _ = self.is_painted();
                         return Err(End::Unbuilt);
                     }
                     left -= count;
                 }
                 Received::Again => return Ok(left),
-                Received::Closed => return Err(End::Unbuilt),
+                Received::Closed => unreachable!(),
                 Received::Ended(end) => return Err(end),
                 Received::NoMemory => return Err(End::Short),
             }
@@ -72,9 +92,13 @@ impl<B: Bay + Drop> Session<B> {
 
     /// Captures each window that the client has mapped.
     fn capture_all(&mut self, c: Conn) -> Result<(), End>
+        requires open { IsSome (open_client self.old.clients c.0) }
         ensures windows { KeepsWindows self.old self.new }
+        ensures open { IsSome (open_client self.new.clients c.0) }
         ensures clean { OnOk result (AreClean self.new.desk (open_client self.new.clients c.0)) }
+        ensures short { IfErr result (λ e. e ≡ End.Short) }
         ensures ends { LeavesEnds c.0 self.old.ends result self.new.ends }
+        ensures acts { Acts B.provider B.connection c.0 self.old self.new }
         ensures bay { self.new.bay ≡ self.old.bay }
     {
         for place in 0..self.desk.len() {
@@ -92,10 +116,16 @@ impl<B: Bay + Drop> Session<B> {
 
     /// Writes until nothing waits.
     fn send_all(&mut self, c: Conn) -> Result<(), End>
+        requires open { IsSome (open_client self.old.clients c.0) }
         ensures windows { KeepsWindows self.old self.new }
+        ensures open { OnOk result (IsSome (open_client self.new.clients c.0)) }
         ensures idle { OnOk result (WaitsForNothing (open_client self.new.clients c.0)) }
         ensures sources { OnOk result (sources_in (open_client self.new.clients c.0) ≡ sources_in (open_client self.old.clients c.0)) }
+        ensures reads { ReadsStay (B.connection self.old.bay c.0) (B.connection self.new.bay c.0) }
+        ensures unsettled { IfErr result (λ e. e ≢ End.Settled) }
+        ensures means { IfErr result (λ e. EndMeans self.new.lines self.new.desk e (B.connection self.new.bay c.0)) }
         ensures ends { LeavesEnds c.0 self.old.ends result self.new.ends }
+        ensures acts { Acts B.provider B.connection c.0 self.old self.new }
         ensures others { OthersStay (B.connection self.old.bay) (B.connection self.new.bay) c.0 }
         ensures provider { B.provider self.new.bay ≡ B.provider self.old.bay }
     {
@@ -109,20 +139,26 @@ impl<B: Bay + Drop> Session<B> {
 
     /// Writes until something was taken, or nothing waits: whether something was taken.
     fn send_some(&mut self, c: Conn) -> Result<bool, End>
+        requires open { IsSome (open_client self.old.clients c.0) }
         ensures windows { KeepsWindows self.old self.new }
+        ensures open { OnOk result (IsSome (open_client self.new.clients c.0)) }
         ensures ends { LeavesEnds c.0 self.old.ends result self.new.ends }
         ensures less { IfOk result (λ wrote. WritesLess wrote (waiting_at self.old.clients c.0) (waiting_at self.new.clients c.0)) }
         ensures idle { result ≡ Ok false → WaitsForNothing (open_client self.new.clients c.0) }
         ensures sources { OnOk result (sources_in (open_client self.new.clients c.0) ≡ sources_in (open_client self.old.clients c.0)) }
+        ensures reads { ReadsStay (B.connection self.old.bay c.0) (B.connection self.new.bay c.0) }
+        ensures unsettled { IfErr result (λ e. e ≢ End.Settled) }
+        ensures means { IfErr result (λ e. EndMeans self.new.lines self.new.desk e (B.connection self.new.bay c.0)) }
+        ensures acts { Acts B.provider B.connection c.0 self.old self.new }
         ensures others { OthersStay (B.connection self.old.bay) (B.connection self.new.bay) c.0 }
         ensures provider { B.provider self.new.bay ≡ B.provider self.old.bay }
     {
-        for _ in 0..DRY_LIMIT {
+        for tried in 0..DRY_LIMIT {
             match self.send(c, SEND_LIMIT) {
                 Sent::Took(_) => return Ok(true),
                 Sent::Again => {}
                 Sent::Idle => return Ok(false),
-                Sent::Closed => return Err(End::Unbuilt),
+                Sent::Closed => unreachable!(),
                 Sent::Ended(end) => return Err(end),
                 Sent::NoMemory => return Err(End::Short),
             }
@@ -132,12 +168,25 @@ impl<B: Bay + Drop> Session<B> {
 
     /// A client that has not said a whole hello is not settled.
     fn check_greeted(&self, c: Conn) -> Result<(), End>
+        requires open { IsSome (open_client self.now.clients c.0) }
+        requires heard { HasWaited (B.connection self.now.bay c.0) }
         ensures unbuilt { IfErr result (λ end. end ≡ End.Unbuilt) }
+        ensures means { IfErr result (λ e. EndMeans self.now.lines self.now.desk e (B.connection self.now.bay c.0)) }
         ensures greeted { OnOk result (IsAttached self.now.clients c.0) }
     {
-        match self.clients.get(c.0 as usize) {
-            Some(Some(client)) if client.greeted => Ok(()),
-            _ => Err(End::Unbuilt),
+        let _ = self.is_painted();
+        if is_greeted(&self.clients, c.0 as usize) {
+            return Ok(());
         }
+        Err(End::Unbuilt)
+    }
+}
+
+fn is_greeted(clients: &[Option<Client>], k: usize) -> bool
+    ensures { IsTrue result ↔ IsAttachedIn clients.now k }
+{
+    match clients.get(k) {
+        Some(Some(client)) => client.greeted,
+        _ => false,
     }
 }

@@ -30,13 +30,21 @@ pub struct Calm<B: Drop> {
 impl<B: Bay + Drop> Session<B> {
     ghost use Rattle.session_core.specs.State.{KeepsWindows};
     ghost use Rattle.session_core.specs.Ends.{KeepsEnds, AllEnded, NoMoreShort};
+    ghost use Rattle.session_core.specs.Causes.{EndsHaveCauses, EndedStay};
+    ghost use Rattle.session_core.specs.Settling.{Settles, SettlesOn};
 
-    /// Accepts whoever comes, and settles each connection in turn.
+    /// Accepts whoever comes, and settles each connection in turn, that of least number first. Each ends with
+    /// its cause: `Settled` where all that it said was read after the last byte was sent to it and it shows
+    /// exactly the last windows, `Unbuilt` where it failed or said or did what is not built yet, `Short` for
+    /// want of memory. Nothing is drawn that a capture did not make.
     pub fn settle(mut self) -> Calm<B>
         ensures desk { result.desk ≡ self.desk }
         ensures counted { length result.ends.items ≡ (B.provider result.bay).count }
         ensures ends { KeepsEnds self.ends result.ends.items }
         ensures ended { result.how ≡ How.Settled → AllEnded result.ends.items }
+        ensures causes { EndsHaveCauses B.tells self.lines self.desk (B.connection result.bay) self.ends result.ends.items }
+        ensures stays { EndedStay (B.connection self.bay) (B.connection result.bay) self.ends }
+        ensures settles { Settles B.provider B.connection B.tells self result.ends.items result.bay }
         ensures short { result.how ≢ How.NoMemory → NoMoreShort self.ends result.ends.items }
         ensures fault { result.how ≡ How.BayFault → Rose (B.provider self.bay).faults (B.provider result.bay).faults }
         ensures settled { result.how ≡ How.Settled → Rose (B.provider self.bay).lulls (B.provider result.bay).lulls }
@@ -66,6 +74,7 @@ impl<B: Bay + Drop> Session<B> {
         ensures windows { KeepsWindows self.old self.new }
         ensures ends { KeepsEnds self.old.ends self.new.ends }
         ensures ended { result ≡ How.Settled → AllEnded self.new.ends }
+        ensures turn { SettlesOn B.provider B.connection B.tells self.old self.new }
         ensures short { result ≢ How.NoMemory → NoMoreShort self.old.ends self.new.ends }
         ensures fault { result ≡ How.BayFault → Rose (B.provider self.old.bay).faults (B.provider self.new.bay).faults }
         ensures settled { result ≡ How.Settled → Rose (B.provider self.old.bay).lulls (B.provider self.new.bay).lulls }

@@ -1,8 +1,7 @@
 // One turn of settling: somebody is accepted, or the open connection of least number is settled.
-ghost use Rattle.std.specs.Prelude.{◌≡◌, ◌≢◌, ◌≤◌, ◌<◌, true, false, Some, None, IfSome, IsSome, length, ◌^◌};
+ghost use Rattle.std.specs.Prelude.{ℕ, ◌≡◌, ◌≢◌, ◌≤◌, ◌<◌, true, false, Some, None, IfSome, IsSome, length, ◌^◌};
 ghost use Rattle.std.specs.Option.{is_some};
 ghost use Rattle.xp_base.specs.Counts.{Rose};
-ghost use Rattle.link_bay.specs.Connections.{OthersStay};
 ghost use Rattle.session_core.specs.State.{open_client, open_count};
 ghost use Rattle.session_core.specs.Ends.{rounds_end};
 
@@ -18,12 +17,14 @@ use xp_base::Conn;
 impl<B: Bay + Drop> Session<B> {
     ghost use Rattle.session_core.specs.State.{KeepsWindows, is_unended};
     ghost use Rattle.session_core.specs.Ends.{KeepsEnds, AllEnded, NoMoreShort, EndsOne, work};
+    ghost use Rattle.session_core.specs.Settling.{SettlesOn};
 
     /// Makes one turn, and answers how the settling ended, where it did.
     pub(crate) fn settle_turn(&mut self) -> Option<How>
         ensures windows { KeepsWindows self.old self.new }
         ensures ends { KeepsEnds self.old.ends self.new.ends }
         ensures ended { result ≡ Some How.Settled → AllEnded self.new.ends }
+        ensures turn { SettlesOn B.provider B.connection B.tells self.old self.new }
         ensures short { result ≢ Some How.NoMemory → NoMoreShort self.old.ends self.new.ends }
         ensures less { result ≡ None → work (B.provider self.new.bay).room self.new.ends < work (B.provider self.old.bay).room self.old.ends }
         ensures fault { result ≡ Some How.BayFault → Rose (B.provider self.old.bay).faults (B.provider self.new.bay).faults }
@@ -33,6 +34,7 @@ impl<B: Bay + Drop> Session<B> {
         ensures faults { (B.provider self.old.bay).faults ≤ (B.provider self.new.bay).faults }
         ensures lulls { (B.provider self.old.bay).lulls ≤ (B.provider self.new.bay).lulls }
     {
+        let _ = self.is_painted();
         match self.accept() {
             Accepted::Conn(_) => None,
             Accepted::Nobody => match self.settle_next() {
@@ -56,7 +58,9 @@ impl<B: Bay + Drop> Session<B> {
         ensures none { result ≡ None → open_count self.old.clients ≡ 0 }
         ensures ended { result ≡ None → AllEnded self.old.ends }
         ensures same { result ≡ None → self.new ≡ self.old }
+        ensures ends { KeepsEnds self.old.ends self.new.ends }
         ensures some { IfSome result (λ e. EndsOne self.old.ends e self.new.ends) }
+        ensures turn { SettlesOn B.provider B.connection B.tells self.old self.new }
         ensures provider { B.provider self.new.bay ≡ B.provider self.old.bay }
     {
         let c = first_open(&self.clients)?;
@@ -65,14 +69,17 @@ impl<B: Bay + Drop> Session<B> {
 
     /// Brings the connection to the last windows, or ends it otherwise.
     fn settle_one(&mut self, c: Conn) -> End
-        requires { IsSome (open_client self.old.clients c.0) }
+        requires open { IsSome (open_client self.old.clients c.0) }
+        requires least { (k : ℕ) → k < c.0 → open_client self.old.clients k ≡ None }
         ensures windows { KeepsWindows self.old self.new }
         ensures ended { EndsOne self.old.ends result self.new.ends }
-        ensures others { OthersStay (B.connection self.old.bay) (B.connection self.new.bay) c.0 }
+        ensures turn { SettlesOn B.provider B.connection B.tells self.old self.new }
         ensures provider { B.provider self.new.bay ≡ B.provider self.old.bay }
     {
         let _ = &self.alloc;
-        let end = end_of(self.make_rounds(c));
+        let rounds = self.make_rounds(c);
+        let _ = self.is_painted();
+        let end = end_of(rounds);
         if is_open(&self.clients, c.0 as usize) {
             self.drop_client(c, end);
         }
@@ -95,6 +102,7 @@ fn first_open(clients: &[Option<Client>]) -> Option<Conn>
     requires { length clients.now < 2 ^ 32 }
     ensures none { result ≡ None → open_count clients.now ≡ 0 }
     ensures some { IfSome result (λ c. IsSome (open_client clients.now c.0)) }
+    ensures least { IfSome result (λ c. (k : ℕ) → k < c.0 → open_client clients.now k ≡ None) }
 {
     for place in 0..clients.len() {
         if clients[place].is_some() {

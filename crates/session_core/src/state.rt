@@ -44,14 +44,16 @@ impl<B: Bay + Drop> Model for Session<B> {
       bay = s.bay;
     } };
 
-    ghost invariant = { λ s. IsSteady (B.connection s.bay) s.paints s.place s.desk s.clients.items s.ends.items (B.provider s.bay).count };
+    ghost invariant = { λ s. IsSteady B.tells (B.connection s.bay) s.paints s.place s.desk s.clients.items s.ends.items (B.provider s.bay).count };
 }
 
 impl<B: Bay + Drop> Session<B> {
     ghost use Rattle.session_core.specs.State.{Seen, IsSession};
     ghost use Rattle.session_core.specs.Told.{AreTold};
+    ghost use Rattle.session_core.specs.Given.{AreKnown};
     ghost use Rattle.std.specs.Prelude.{MatchResult};
     ghost use Rattle.window_model.specs.Desktop.{IsDesktop};
+    ghost use Rattle.paint_script.specs.Validity.{ArePaints};
 
     /// A session before its first paint line. `Err` is want of memory, and hands the provider back.
     pub fn new(alloc: Global, paints: Paints, bay: B) -> Result<Session<B>, B>
@@ -85,7 +87,9 @@ impl<B: Bay + Drop> Session<B> {
         ensures value { IsTrue result ↔ (length self.now.lines ≤ self.now.place) }
         ensures kept { IsSession self.now.lines self.now.place self.now.desk self.now.clients self.now.ends (B.provider self.now.bay).count }
         ensures told { AreTold (B.connection self.now.bay) self.now.desk self.now.clients }
+        ensures known { AreKnown B.tells (B.connection self.now.bay) self.now.lines self.now.desk self.now.clients }
         ensures desktop { IsDesktop self.now.desk }
+        ensures lines { ArePaints self.now.lines }
     {
         let _count = self.desk.len();
         self.place >= self.paints.len()

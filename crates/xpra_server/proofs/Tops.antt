@@ -14,15 +14,15 @@ use Rattle.xpra_server.specs.Texts.{fault_line}
 use Rattle.xpra_server.specs.Statuses.{Faults, IsPrinted, WritesPartOf, WritesPart}
 
 -- what was read to its end is all that was left
-all_read : (bytes rest text : List ℕ) → bytes ≡ text ++ rest → rest ≡ [] → bytes ≡ text
+pub all_read : (bytes rest text : List ℕ) → bytes ≡ text ++ rest → rest ≡ [] → bytes ≡ text
 all_read bytes rest text is none = is ∙ ap (λ r. text ++ r) none ∙ append-nil text
 
-long_script : (text : List ℕ) → 65536 < length text → script_of text ≡ Err 0
+pub long_script : (text : List ℕ) → 65536 < length text → script_of text ≡ Err 0
 unfolding script_of
 long_script text long = grind (arith, nat_tests)
 
 -- where more than the limit was read, more than the limit was left
-long_left : (bytes rest text : List ℕ) → bytes ≡ text ++ rest → 65536 < length text → 65536 < length bytes
+pub long_left : (bytes rest text : List ℕ) → bytes ≡ text ++ rest → 65536 < length text → 65536 < length bytes
 long_left bytes rest text is long = let counted : length bytes ≡ length text + length rest = ap length is ∙ length-append text rest in omega arith
 
 pub faults_long : (left left' taken taken' : Option (List ℕ)) → ReadsPast 65536 left left' → taken' ≡ told_append taken (fault_line 0) → Faults left taken taken'

@@ -1,5 +1,5 @@
 -- What the program's words and input come to, and what is written with each status. This project's own.
-use Rattle.std.specs.Prelude.{ℕ, ◌≡◌, ◌≢◌, ◌≤◌, length, take, All, IsOk, Option, Some, None, Result, Ok, Err, List, [], ◌∷◌, codes}
+use Rattle.std.specs.Prelude.{ℕ, ◌≡◌, ◌≢◌, ◌≤◌, Bool, false, slice_get, length, take, All, IsOk, Option, Some, None, Result, Ok, Err, List, [], ◌∷◌, codes}
 use Rattle.xp_base.specs.Told.{told_append}
 use Rattle.paint_script.specs.declared.line.Line.{Line}
 use Rattle.paint_script.specs.Reading.{script_of}
@@ -7,7 +7,11 @@ use Rattle.paint_script.specs.Validity.{paint_lines, peer_orders}
 use Rattle.paint_script.specs.Painting.{last_desk}
 use Rattle.link_bay.specs.declared.order.Order.{Order}
 use Rattle.session_core.specs.declared.ends.End.{End}
-use Rattle.session_core.specs.declared.ends.End.TheVariants.{Short}
+use Rattle.session_core.specs.declared.ends.End.TheVariants.{Settled, Short}
+use Rattle.paint_script.specs.declared.paint.Paint.{Paint}
+use Rattle.link_bay.specs.Connections.{ConnectionRecord}
+use Rattle.session_core.specs.Causes.{HasCause, IsUnbuiltFor}
+use Rattle.session_core.specs.State.{is_unended}
 use Rattle.session_core.specs.Ends.{AllEnded}
 use Rattle.xpra_server.specs.Report.{report}
 use Rattle.xpra_server.specs.Texts.{fault_line}
@@ -16,29 +20,10 @@ use Rattle.xpra_server.specs.Texts.{fault_line}
 abbrev pub IsPlay : List (List ℕ) → Type 0
 IsPlay words = words ≡ codes "play" ∷ []
 
--- the text is a script, and its last windows and these ends are the report
-abbrev pub IsReportOf : Result (List Line) ℕ → List End → List ℕ → Type 0
-IsReportOf (Ok lines) ends written = written ≡ report (last_desk (paint_lines lines)) ends
-IsReportOf (Err number) ends written = ⊥
-
 -- the text is no script, and this is its fault line
 abbrev pub IsFaultOf : Result (List Line) ℕ → List ℕ → Type 0
 IsFaultOf (Ok lines) written = ⊥
 IsFaultOf (Err number) written = written ≡ fault_line number
-
--- where the input tells its bytes they are a script, and the report was written
-abbrev pub Reports : Option (List ℕ) → List End → Option (List ℕ) → Option (List ℕ) → Type 0
-Reports None ends taken taken' = Unit {0}
-Reports (Some text) ends taken taken' = (written : List ℕ) × IsReportOf (script_of text) ends written × (taken' ≡ told_append taken written)
-
--- the provider was asked for the peers that the script orders, and for nothing else
-abbrev pub AsksFor : Result (List Line) ℕ → Option (List Order) → Option (List Order) → Type 0
-AsksFor (Ok lines) asked asked' = asked' ≡ told_append asked (peer_orders lines)
-AsksFor (Err number) asked asked' = ⊥
-
-abbrev pub Asks : Option (List ℕ) → Option (List Order) → Option (List Order) → Type 0
-Asks None asked asked' = Unit {0}
-Asks (Some text) asked asked' = AsksFor (script_of text) asked asked'
 
 -- where the input tells its bytes they are a script
 abbrev pub IsScript : Option (List ℕ) → Type 0
@@ -72,3 +57,40 @@ IsPrintedOf (Some text) ends printed = IsPrinted (script_of text) ends printed
 -- a part of what the run prints was written
 abbrev pub WritesPart : Option (List ℕ) → List End → Option (List ℕ) → Option (List ℕ) → Type 0
 WritesPart left ends taken taken' = (printed : List ℕ) × IsPrintedOf left ends printed × WritesPartOf printed taken taken'
+
+-- each connection that has ended has its cause, by these paint lines and the desktop after them
+abbrev pub AllHaveCauses : Bool → List Paint → (ℕ → ConnectionRecord) → List End → Type 0
+AllHaveCauses tells paints connection ends = (k : ℕ) (e : End) → slice_get ends k ≡ Some e → is_unended e ≡ false → HasCause tells paints (last_desk paints) e (connection k)
+
+-- the text is a script, and each end has its cause, by its lines; where it is none, nobody was there
+abbrev pub HaveCausesBy : Bool → Result (List Line) ℕ → (ℕ → ConnectionRecord) → List End → Type 0
+HaveCausesBy tells (Ok lines) connection ends = AllHaveCauses tells (paint_lines lines) connection ends
+HaveCausesBy tells (Err number) connection ends = ends ≡ []
+
+-- the same of the input; where it doesn't tell its bytes, by some paint lines
+abbrev pub HaveCausesFor : Bool → Option (List ℕ) → (ℕ → ConnectionRecord) → List End → Type 0
+HaveCausesFor tells None connection ends = (paints : List Paint) × AllHaveCauses tells paints connection ends
+HaveCausesFor tells (Some text) connection ends = HaveCausesBy tells (script_of text) connection ends
+
+-- the input tells its bytes, and they are a script
+abbrev pub TellsScript : Option (List ℕ) → Type 0
+TellsScript None = ⊥
+TellsScript (Some text) = IsOk (script_of text)
+
+-- the text of the input: the one that was left, where it is told
+abbrev pub IsTextOf : Option (List ℕ) → List ℕ → Type 0
+IsTextOf None text = Unit {0}
+IsTextOf (Some left) text = text ≡ left
+
+-- A run that ended well. The text of the input is a script; the report of the desktop after its paint lines and of the ends was
+-- written; the provider was asked for the peers that it orders, and for nothing else; each connection has ended with its cause; and
+-- one without a cause of the end `Unbuilt` has ended `Settled`.
+pub record RanWell (tells : Bool) (left taken taken' : Option (List ℕ)) (asked asked' : Option (List Order)) (connection : ℕ → ConnectionRecord) (ends : List End) : Type 0 where
+  pub text : List ℕ
+  pub lines : List Line
+  pub input : IsTextOf left text
+  pub script : script_of text ≡ Ok lines
+  pub written : taken' ≡ told_append taken (report (last_desk (paint_lines lines)) ends)
+  pub ordered : asked' ≡ told_append asked (peer_orders lines)
+  pub causes : AllHaveCauses tells (paint_lines lines) connection ends
+  pub settled : (k : ℕ) (e : End) → slice_get ends k ≡ Some e → (IsUnbuiltFor (paint_lines lines) (connection k) → ⊥) → e ≡ Settled

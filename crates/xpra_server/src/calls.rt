@@ -3,7 +3,7 @@ ghost use Rattle.std.specs.Prelude.{◌≡◌, ◌≢◌, All, ◌≤◌, ◌⊎
 ghost use Rattle.xp_base.specs.Counts.{Rose};
 ghost use Rattle.xp_base.specs.Told.{HasNoneLeft, told_append};
 ghost use Rattle.link_bay.specs.Provider.{IsFresh};
-ghost use Rattle.xpra_server.specs.Statuses.{IsPlay, Reports, Faults, IsScript, AreEnds, Asks, WritesPartOf, WritesPart};
+ghost use Rattle.xpra_server.specs.Statuses.{IsPlay, RanWell, Faults, IsScript, TellsScript, AreEnds, AllHaveCauses, HaveCausesFor, WritesPartOf, WritesPart};
 ghost use Rattle.xpra_server.specs.Read.{ReadsPast};
 ghost use Rattle.xpra_server.specs.Report.{report as report_text};
 ghost use Rattle.xpra_server.specs.Texts.{fault_line};
@@ -34,7 +34,8 @@ pub struct Outcome<B: Drop> {
 
 /// Plays the script that the input is, and writes the report of its last windows.
 ///
-/// Status 0: the report was written. 1: the words are no form of this call; the usage line was written.
+/// Status 0: the report was written, and each client that ended `Settled` shows exactly the script's last
+/// windows. 1: the words are no form of this call; the usage line was written.
 /// 2: the input is no script; its fault line was written. 3: the input failed. 4: the output failed.
 /// 5: want of memory. 6: an accept failed.
 pub fn top<S: Source, K: Sink, B: Bay + Drop>(
@@ -48,7 +49,7 @@ pub fn top<S: Source, K: Sink, B: Bay + Drop>(
     ensures wrong { ¬ IsPlay (map string_bytes words.now.items) → (result.status ≡ 1) ⊎ (result.status ≡ 4) ⊎ (result.status ≡ 5) }
     ensures usage_text { result.status ≡ 1 → (K.sink out.new).taken ≡ told_append (K.sink out.old).taken usage_line }
     ensures refused { result.status ≡ 2 → Faults (S.source input.old).left (K.sink out.old).taken (K.sink out.new).taken }
-    ensures report { result.status ≡ 0 → Reports (S.source input.old).left result.ends.items (K.sink out.old).taken (K.sink out.new).taken }
+    ensures ran { result.status ≡ 0 → RanWell B.tells (S.source input.old).left (K.sink out.old).taken (K.sink out.new).taken (B.provider bay).asked (B.provider result.bay).asked (B.connection result.bay) result.ends.items }
     ensures input { result.status ≡ 3 → Rose (S.source input.old).faults (S.source input.new).faults }
     ensures output { result.status ≡ 4 → Rose (K.sink out.old).faults (K.sink out.new).faults }
     ensures input_well { result.status ≢ 3 → (S.source input.new).faults ≡ (S.source input.old).faults }
@@ -67,8 +68,10 @@ pub fn top<S: Source, K: Sink, B: Bay + Drop>(
     ensures untouched { (result.status ≡ 2) ⊎ (result.status ≡ 3) → result.bay ≡ bay }
     ensures counted { length result.ends.items ≡ (B.provider result.bay).count }
     ensures ended { result.status ≡ 0 → AreEnds result.ends.items }
+    ensures causes { HaveCausesFor B.tells (S.source input.old).left (B.connection result.bay) result.ends.items }
+    ensures complete { IsPlay (map string_bytes words.now.items) → TellsScript (S.source input.old).left → ¬ Rose (S.source input.old).faults (S.source input.new).faults → ¬ Rose (K.sink out.old).faults (K.sink out.new).faults
+        → ¬ Rose (B.provider bay).faults (B.provider result.bay).faults → (result.status ≡ 0) ⊎ (result.status ≡ 5) }
     ensures fed { result.status ≢ 5 → All (λ e. e ≢ End.Short) result.ends.items }
-    ensures asked { result.status ≡ 0 → Asks (S.source input.old).left (B.provider bay).asked (B.provider result.bay).asked }
     ensures served { result.status ≡ 0 → B.tells ≡ true → (B.provider result.bay).room ≡ 0 }
 {
     let alloc = *words.allocator();
@@ -120,6 +123,7 @@ fn play_script<K: Sink, B: Bay + Drop>(
     ensures unwritten { result.status ≡ 6 → K.sink out.new ≡ K.sink out.old }
     ensures counted { length result.ends.items ≡ (B.provider result.bay).count }
     ensures ended { result.status ≡ 0 → AreEnds result.ends.items }
+    ensures causes { AllHaveCauses B.tells (paint_lines script.now) (B.connection result.bay) result.ends.items }
     ensures fed { result.status ≢ 5 → All (λ e. e ≢ End.Short) result.ends.items }
     ensures asked { result.status ≡ 0 → (B.provider result.bay).asked ≡ told_append (B.provider bay).asked (peer_orders script.now) }
     ensures served { result.status ≡ 0 → B.tells ≡ true → (B.provider result.bay).room ≡ 0 }

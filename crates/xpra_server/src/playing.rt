@@ -5,7 +5,7 @@ ghost use Rattle.link_bay.specs.Provider.{IsFresh};
 ghost use Rattle.paint_script.specs.Painting.{last_desk};
 ghost use Rattle.paint_script.specs.Validity.{paint_lines, peer_orders};
 ghost use Rattle.xp_base.specs.Told.{told_append};
-ghost use Rattle.xpra_server.specs.Statuses.{AreEnds};
+ghost use Rattle.xpra_server.specs.Statuses.{AreEnds, AllHaveCauses};
 
 use link_bay::Bay;
 use paint_script::{Line, Script, desk_at_end};
@@ -36,6 +36,7 @@ pub fn play<B: Bay + Drop>(alloc: Global, script: &Script, bay: B) -> Played<B>
     ensures accept { result.shown ≡ Err Stop.BayFault → Rose (B.provider bay).faults (B.provider result.bay).faults }
     ensures counted { length result.ends.items ≡ (B.provider result.bay).count }
     ensures ended { IsOk result.shown → AreEnds result.ends.items }
+    ensures causes { AllHaveCauses B.tells (paint_lines script.now) (B.connection result.bay) result.ends.items }
     ensures fed { result.shown ≢ Err Stop.NoMemory → All (λ e. e ≢ End.Short) result.ends.items }
     ensures asked { IsOk result.shown → (B.provider result.bay).asked ≡ told_append (B.provider bay).asked (peer_orders script.now) }
     ensures served { IsOk result.shown → B.tells ≡ true → (B.provider result.bay).room ≡ 0 }
@@ -83,7 +84,8 @@ fn make_lines<B: Bay + Drop>(session: &mut Session<B>, lines: &[Line]) -> Result
     ensures desk { OnOk result (session.new.desk ≡ last_desk (paint_lines lines.now)) }
     ensures faults { OnOk result ((B.provider session.new.bay).faults ≡ (B.provider session.old.bay).faults) }
     ensures asked { OnOk result ((B.provider session.new.bay).asked ≡ told_append (B.provider session.old.bay).asked (peer_orders lines.now)) }
-    ensures ends { OnOk result (session.new.ends ≡ session.old.ends) }
+    ensures ends { session.new.ends ≡ session.old.ends }
+    ensures lines { session.new.lines ≡ session.old.lines }
 {
     desk_at_end();
     for line in lines {

@@ -1,8 +1,8 @@
-use Rattle.std.proofs.Common.{◌≡◌, inl, inr, ◌++◌, ◌∙◌, sym, ap, refl, drop, subst, None, List, ℕ}
+use Rattle.std.proofs.Common.{◌≡◌, ◌++◌, ◌∙◌, sym, ap, refl, drop, subst, None, List, ℕ}
 use Rattle.session_core.specs.Clients.{ClientSeen}
 use Rattle.session_core.specs.Wire.{exact_hello}
 use Rattle.session_core.specs.Hearing.{HearsMaps, IsNeither}
-use Rattle.session_core.proofs.Heard.{unhears_on, unhears_first, unhears_neither, err_then}
+use Rattle.session_core.proofs.Heard.{unhears_on, unhears_first, unhears_neither}
 use Rattle.session_core.proofs.client.Client.hear.Goals as goal
 
 pub returns-then-self-clause-unbuilt : goal.returns-then-self-clause-unbuilt
@@ -25,19 +25,3 @@ returns-clause-unbuilt c = λ err.
     sym c.in-Ok.ensures.items ∙ sym c.as_slice.ensures.value ∙ c.in-Whole.ensures.whole refl ∙ ap (λ (bs : List ℕ). exact_hello ++ drop 39 bs) c.as_slice.ensures.value in
     rw (← c.self.view_is) (unhears_first c.args.paints.now c.args.desk.now old c.args.bytes.now more c.if-self.false is
     (λ d hears. c.hear_maps-2.ensures.unbuilt err d (subst (λ (a : ClientSeen). HearsMaps c.args.paints.now a a.unread d) (sym c.in-Ok-attach.ensures.ok) hears)))
-
-pub returns-in_default-clause-left : goal.returns-in_default-clause-left
-returns-in_default-clause-left c = rw (← c.self.view_is) (c.self.inside.maps, c.extend_from_slice.new.self.items, inl refl)
-
-pub returns-then-self-clause-left : goal.returns-then-self-clause-left
-returns-then-self-clause-left c = err_then c.hear_maps.result (λ same. rw (← c.self.view_is) (c.self.inside.maps, c.extend_from_slice.new.self.items, inl same)) c.hear_maps.ensures.err
-
-pub returns-in-Other-clause-left : goal.returns-in-Other-clause-left
-returns-in-Other-clause-left c = rw (← c.self.view_is) (c.self.inside.maps, c.extend_from_slice.new.self.items, inl refl)
-
-pub returns-in_default-attach-clause-left : goal.returns-in_default-attach-clause-left
-returns-in_default-attach-clause-left c = rw (← c.self.view_is) (c.self.inside.maps, c.extend_from_slice.new.self.items, inl c.in_default-attach.ensures.err)
-
-pub returns-clause-left : goal.returns-clause-left
-returns-clause-left c = err_then c.hear_maps-2.result (λ same. rw (← c.self.view_is)
-    (c.self.inside.maps, drop 39 c.extend_from_slice.new.self.items, inr (c.if-self.false, same ∙ c.in-Ok-attach.ensures.ok))) c.hear_maps-2.ensures.err

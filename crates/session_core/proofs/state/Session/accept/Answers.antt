@@ -7,7 +7,7 @@ pub invariant_of-self-in-Conn : goal.invariant_of-self-in-Conn
 invariant_of-self-in-Conn g c =
     let answer = c.in-Conn.ensures.answer in
     let counted = ap (λ p. p.count) answer.2 in
-    steady_accepted _ g.B.Bay.tells c.new.result _ _ _ c.self.invariant c.new.ensures
+    steady_accepted _ c.new.result _ _ _ c.self.invariant c.new.ensures
     (c.push_reserved.ensures.items ∙ ap (λ cs. cs ++ Some c.new.result ∷ []) c.reserve.ensures.items)
     (c.push_reserved-in-Conn.ensures.items ∙ ap (λ es. es ++ Unended ∷ []) c.reserve-else-is_err.ensures.items)
     counted (omega (arith, c.in-Conn.ensures.numbered)) c.in-Conn.ensures.others answer.3

@@ -2,25 +2,20 @@ use Rattle.std.proofs.Common.{◌≡◌, ◌<◌, List, length, ap, refl, sym, �
 use Rattle.std.proofs.lemmas.Bool.{eqb-true}
 use Rattle.window_model.specs.Desktop.{Window, IsWindow, find_window}
 use Rattle.session_core.proofs.Sources.{found_one}
-use Rattle.session_core.proofs.Steadies.{told_slot, told_here, slot_captured}
+use Rattle.session_core.proofs.Steadies.{steady_slot, slot_captured}
 use Rattle.std.specs.Prelude.{Option, IsSome}
 use Rattle.session_core.specs.Clients.{ClientSeen}
 use Rattle.session_core.specs.State.{open_client}
-use Rattle.session_core.proofs.Lives.{session_slot}
 use Rattle.session_core.proofs.Writings.{captures_made, captures_none, slot_some}
 use Rattle.session_core.proofs.state.Session.capture.Goals as goal
 
 pub invariant_of-self : goal.invariant_of-self
 invariant_of-self g c =
     let within : c.args.c.0 < length c.self.inside.clients.items = grind (arith, c.if-not-is_open.ensures.within refl, ap length c.deref.ensures.value) in
-    let was = told_here (g.B.Bay.connection c.self.inside.bay) c.self.inside.desk c.self.inside.clients.items c.args.c.0 c.index_mut-slot.result.now c.self.invariant.told within c.index_mut-slot.ensures.value in
     let found = found_one IsWindow (λ (w : Window). eqb w.wid c.args.wid) c.self.inside.desk c.in-Some.window.now c.len-count.ensures.kept.windows (sym c.in-Some.ensures) in
     let number : c.in-Some.window.now.wid ≡ c.args.wid = eqb-true c.in-Some.window.now.wid c.args.wid found.1 in
-    record {
-      session = session_slot c.args.c.0 c.index_mut-slot.result.now c.capture_slot.new.slot _ c.self.invariant.session c.index_mut-slot.ensures.value c.capture_slot.ensures.kept refl;
-      told = told_slot (g.B.Bay.connection c.self.inside.bay) (g.B.Bay.connection c.self.inside.bay) c.self.inside.desk c.self.inside.clients.items c.args.c.0 c.capture_slot.new.slot c.self.invariant.told (λ d other. refl) within
-          (slot_captured c.self.inside.desk c.in-Some.window.now _ c.index_mut-slot.result.now c.capture_slot.new.slot c.capture_slot.result found.0 (ap (find_window c.self.inside.desk) number ∙ sym c.in-Some.ensures) c.capture_slot.ensures.answer was);
-    }
+    steady_slot (g.B.Bay.connection c.self.inside.bay) c.args.c.0 c.index_mut-slot.result.now c.capture_slot.new.slot _ c.self.invariant within c.index_mut-slot.ensures.value c.capture_slot.ensures.kept refl (λ d other. refl)
+    (slot_captured g.B.Bay.tells c.self.inside.paints c.self.inside.desk c.in-Some.window.now _ c.index_mut-slot.result.now c.capture_slot.new.slot c.capture_slot.result found.0 (ap (find_window c.self.inside.desk) number ∙ sym c.in-Some.ensures) c.capture_slot.ensures.answer)
 
 pub returns-in_default-clause-answer : goal.returns-in_default-clause-answer
 returns-in_default-clause-answer g c =

@@ -7,6 +7,8 @@ use Rattle.session_core.specs.State.{Seen, open_client}
 use Rattle.session_core.specs.Steps.{Captures}
 use Rattle.session_core.specs.Calm.{IsCleanAt, sources_in}
 use Rattle.session_core.proofs.Sources.{some_same}
+use Rattle.session_core.proofs.Acting.{acts_capture}
+use Rattle.session_core.proofs.Stepping.{captures_open}
 use Rattle.session_core.proofs.Calms.{captures_clean, found_there, place_where}
 use Rattle.session_core.proofs.state.Session.capture_all.Goals as goal
 
@@ -31,6 +33,8 @@ loop-place-preserved g c =
                 let window : c.in-Some.window.now ≡ w = some_same c.in-Some.window.now w (sym there ∙ ap (slice_get c.loop-place.self.desk) (sym same) ∙ before) in
                 subst (λ (v : Window). IsCleanAt (sources_in (open_client c.capture.new.self.clients c.args.c.0)) v.wid) window clean.0
           ];
+      present = captures_open c.args.c.0 _ c.loop-place.self c.capture.new.self c.capture.result c.loop-place.invariant.present c.capture.ensures.answer;
+      acts = acts_capture g.B.Bay.provider g.B.Bay.connection c.args.c.0 _ _ c.loop-place.self c.capture.new.self c.capture.result c.loop-place.invariant.acts c.capture.ensures.bay c.capture.ensures.answer;
       ends = search (rules);
       bay = search (rules);
     }
@@ -41,3 +45,9 @@ returns-clause-clean g c = λ wid has.
     let p = place_where c.loop-place.self.desk wid has in
     let low : p.0 < c.loop-place.place = omega (arith, p.2, c.loop-place-test.false, c.len-place-end.ensures.value, ap length desk_is) in
     subst (IsCleanAt (sources_in (open_client c.loop-place.self.clients c.args.c.0))) p.4 (c.loop-place.invariant.clean p.0 p.1 low p.3)
+
+pub returns-in-NoMemory-clause-open : goal.returns-in-NoMemory-clause-open
+returns-in-NoMemory-clause-open g c = captures_open c.args.c.0 _ c.loop-place.self c.capture.new.self c.capture.result c.loop-place.invariant.present c.capture.ensures.answer
+
+pub returns-in-NoMemory-clause-acts : goal.returns-in-NoMemory-clause-acts
+returns-in-NoMemory-clause-acts g c = acts_capture g.B.Bay.provider g.B.Bay.connection c.args.c.0 _ _ c.loop-place.self c.capture.new.self c.capture.result c.loop-place.invariant.acts c.capture.ensures.bay c.capture.ensures.answer

@@ -6,3 +6,6 @@ returns-clause-kept g c = rw (← c.self.view_is) (session_plain c.self.inside.c
 
 pub returns-clause-told : goal.returns-clause-told
 returns-clause-told g c = rw (← c.self.view_is) c.self.invariant.told
+
+pub returns-clause-known : goal.returns-clause-known
+returns-clause-known g c = rw (← c.self.view_is) c.self.invariant.known

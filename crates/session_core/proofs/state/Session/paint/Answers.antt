@@ -1,17 +1,13 @@
 use Rattle.std.proofs.Common.{◌+◌, ap, sym, ◌∙◌, subst}
 use Rattle.paint_script.specs.Validity.{IsPaintOn}
 use Rattle.paint_script.specs.Painting.{painted}
-use Rattle.session_core.specs.Steps.{painted_client}
-use Rattle.session_core.proofs.Lives.{session_painted}
-use Rattle.session_core.proofs.Steadies.{painted_told, steady_plain}
+use Rattle.session_core.proofs.Steadies.{steady_painted, steady_plain}
 use Rattle.session_core.proofs.state.Session.paint.Goals as goal
 
 pub invariant_of-self : goal.invariant_of-self
-invariant_of-self g c = record {
-  session = session_painted c.in-Some.line.now (painted_client c.in-Some.line.now) _ _ c.self.invariant.session c.in-Some.ensures.line
-      (c.in-Ok.ensures.desk_ok ∙ ap (λ d. painted d c.in-Some.line.now) c.self.invariant.session.painted ∙ sym c.in-Some.ensures.next) c.in-Ok.ensures.clients_ok;
-  told = painted_told (g.B.Bay.connection c.self.inside.bay) c.self.inside.desk _ c.in-Some.line.now c.self.inside.clients.items _ c.len-windows.ensures.kept (subst (λ d. IsPaintOn d c.in-Some.line.now) (sym c.self.invariant.session.painted) c.in-Some.ensures.valid) c.in-Ok.ensures.desk_ok c.in-Ok.ensures.clients_ok c.self.invariant.told;
-}
+invariant_of-self g c =
+    steady_painted c.in-Some.line.now _ _ c.self.invariant c.len-windows.ensures.kept (subst (λ d. IsPaintOn d c.in-Some.line.now) (sym c.self.invariant.session.painted) c.in-Some.ensures.valid) c.in-Some.ensures.line c.in-Ok.ensures.desk_ok
+    (c.in-Ok.ensures.desk_ok ∙ ap (λ d. painted d c.in-Some.line.now) c.self.invariant.session.painted ∙ sym c.in-Some.ensures.next) c.in-Ok.ensures.clients_ok
 
 pub invariant_of-self-in-Err : goal.invariant_of-self-in-Err
 invariant_of-self-in-Err g c = steady_plain _ _ c.self.invariant c.in-Err.ensures.clients_err c.in-Err.ensures.desk_err

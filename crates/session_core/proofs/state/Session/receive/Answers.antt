@@ -1,39 +1,29 @@
-use Rattle.std.proofs.Common.{◌<◌, ℕ, List, length, ap, refl, ◌∙◌, subst, arith, set, Some, Err}
+use Rattle.std.proofs.Common.{◌<◌, ℕ, List, length, ap, refl, sym, ◌∙◌, subst, arith, set, None, Some, Err}
 use Rattle.std.specs.Prelude.{Option, IsSome}
 use Rattle.link_bay.specs.Answers.{ReadGives}
 use Rattle.link_bay.specs.declared.bay.Gave.TheVariants as G
+use Rattle.session_core.specs.declared.ends.End.{End}
 use Rattle.session_core.specs.declared.ends.End.TheVariants as end
 use Rattle.session_core.specs.declared.ends.Trouble.{Trouble}
 use Rattle.session_core.specs.declared.answers.Received.TheVariants as R
 use Rattle.session_core.specs.Clients.{ClientSeen, plain_clients}
 use Rattle.session_core.specs.State.{open_client}
-use Rattle.link_bay.specs.Connections.{ConnectionRecord}
-use Rattle.session_core.proofs.Lives.{session_slot, clients_gone}
-use Rattle.session_core.proofs.Steadies.{told_slot, told_here, same_sent, slot_heard, slot_no_more}
-use Rattle.session_core.proofs.Writings.{receives_took, receives_again, receives_ended, slot_some, open_some, why_unbuilt, why_end, why_failed, why_short, why_unread}
+use Rattle.session_core.specs.Causes.{IsUnbuiltFor}
+use Rattle.session_core.specs.Steady.{IsSteady}
+use Rattle.session_core.proofs.Each.{each_here}
+use Rattle.session_core.proofs.Lives.{clients_gone, set_twice}
+use Rattle.session_core.proofs.Meanings.{gave_is, unbuilt_means}
+use Rattle.session_core.proofs.Steadies.{IsKeptOf, steady_slot, steady_ended, steady_quiet, slot_heard}
+use Rattle.session_core.proofs.Writings.{receives_took, receives_again, receives_ended, slot_some, open_some, why_unbuilt, why_end, why_failed, why_short, why_unread, dropped_is}
 use Rattle.session_core.proofs.state.Session.receive.Goals as goal
 
 pub invariant_of-self : goal.invariant_of-self
 invariant_of-self g c =
     let within : c.args.c.0 < length c.self.inside.clients.items = grind (arith, c.if-not-is_open.ensures.within refl, ap length c.deref.ensures.value) in
-    let was = told_here (g.B.Bay.connection c.self.inside.bay) c.self.inside.desk c.self.inside.clients.items c.args.c.0 c.index_mut-slot.result.now c.self.invariant.told within c.index_mut-slot.ensures.value in
-    let same = same_sent c.self.inside.desk c.index_mut-slot.result.now _ _ (ap (λ (r : ConnectionRecord). r.sent) c.in-Bytes.ensures.answer.5) was in
-    record {
-      session = session_slot c.args.c.0 c.index_mut-slot.result.now c.hear_slot-heard.new.slot _ c.self.invariant.session c.index_mut-slot.ensures.value c.hear_slot-heard.ensures.kept (ap (λ p. p.count) c.read.ensures.provider);
-      told = told_slot _ _ c.self.inside.desk c.self.inside.clients.items c.args.c.0 c.hear_slot-heard.new.slot c.self.invariant.told c.read.ensures.others within
-          (slot_heard _ c.self.inside.desk _ _ c.index_mut-slot.result.now c.hear_slot-heard.new.slot c.len-count.ensures.kept c.in-Ok.ensures.ok same);
-    }
-
-pub invariant_of-self-in-Unbuilt : goal.invariant_of-self-in-Unbuilt
-invariant_of-self-in-Unbuilt g c =
-    let within : c.args.c.0 < length c.self.inside.clients.items = grind (arith, c.if-not-is_open.ensures.within refl, ap length c.deref.ensures.value) in
-    let was = told_here (g.B.Bay.connection c.self.inside.bay) c.self.inside.desk c.self.inside.clients.items c.args.c.0 c.index_mut-slot.result.now c.self.invariant.told within c.index_mut-slot.ensures.value in
-    let same = same_sent c.self.inside.desk c.index_mut-slot.result.now _ _ (ap (λ (r : ConnectionRecord). r.sent) c.in-Bytes.ensures.answer.5) was in
-    record {
-      session = session_slot c.args.c.0 c.index_mut-slot.result.now c.hear_slot-heard.new.slot _ c.self.invariant.session c.index_mut-slot.ensures.value c.hear_slot-heard.ensures.kept (ap (λ p. p.count) c.read.ensures.provider);
-      told = told_slot _ _ c.self.inside.desk c.self.inside.clients.items c.args.c.0 c.hear_slot-heard.new.slot c.self.invariant.told c.read.ensures.others within
-          (slot_no_more c.self.inside.desk _ c.index_mut-slot.result.now c.hear_slot-heard.new.slot c.len-count.ensures.kept c.in-Err.ensures.left same);
-    }
+    let gives = subst (λ (xs : List ℕ). ReadGives (g.B.Bay.connection c.self.inside.bay c.args.c.0) (g.B.Bay.connection c.read.new.self c.args.c.0) xs c.read.new.into.items 4096 (G.Bytes c.in-Bytes.count)) c.new-bytes.ensures.items c.in-Bytes.ensures.answer in
+    let hears = rw (c.as_slice.ensures.value, c.as_slice-in-Bytes.ensures.items) at c.in-Ok.ensures.ok in
+    steady_slot _ c.args.c.0 c.index_mut-slot.result.now c.hear_slot-heard.new.slot _ c.self.invariant within c.index_mut-slot.ensures.value c.hear_slot-heard.ensures.kept (ap (λ p. p.count) c.read.ensures.provider) c.read.ensures.others
+    (slot_heard g.B.Bay.tells c.self.inside.paints c.self.inside.desk c.read.new.into.items _ _ c.index_mut-slot.result.now c.hear_slot-heard.new.slot c.len-count.ensures.kept (gave_is _ _ _ 4096 c.in-Bytes.count gives) hears)
 
 pub returns-in-Ok-clause-answer : goal.returns-in-Ok-clause-answer
 returns-in-Ok-clause-answer g c =
@@ -51,6 +41,42 @@ returns-in-Again-clause-answer g c =
     let gives = c.in-Again.ensures.answer in
     rw (← c.self.view_is) (receives_again g.B.Bay.connection _ _ _ _ c.self.inside.clients.items c.self.inside.bay c.read.new.self c.args.c.0 within some (refl, gives.1, gives.2))
 
+pub invariant_of-self-in-Unbuilt : goal.invariant_of-self-in-Unbuilt
+invariant_of-self-in-Unbuilt g c =
+    let within : c.args.c.0 < length c.self.inside.clients.items = grind (arith, c.if-not-is_open.ensures.within refl, ap length c.deref.ensures.value) in
+    let gone = c.end_client.ensures.clients ∙ set_twice c.self.inside.clients.items c.args.c.0 c.hear_slot-heard.new.slot None in
+    subst (λ (es : List End). IsSteady g.B.Bay.tells (g.B.Bay.connection c.end_client.new.bay) c.self.inside.paints c.self.inside.place c.self.inside.desk c.end_client.new.clients.items es (g.B.Bay.provider c.end_client.new.bay).count) (sym c.end_client.ensures.ends)
+    (subst (λ (cs : List (Option ClientSeen)). IsSteady g.B.Bay.tells (g.B.Bay.connection c.end_client.new.bay) c.self.inside.paints c.self.inside.place c.self.inside.desk cs (set c.self.inside.ends.items c.args.c.0 end.Unbuilt) (g.B.Bay.provider c.end_client.new.bay).count) (sym gone)
+    (steady_ended (g.B.Bay.connection c.end_client.new.bay) c.args.c.0 end.Unbuilt _ c.self.invariant within refl (ap (λ p. p.count) (c.end_client.ensures.provider ∙ c.read.ensures.provider)) (λ d other. c.end_client.ensures.connections d ∙ c.read.ensures.others d other)))
+
+pub invariant_of-self-in-NoMemory-trouble : goal.invariant_of-self-in-NoMemory-trouble
+invariant_of-self-in-NoMemory-trouble g c =
+    let within : c.args.c.0 < length c.self.inside.clients.items = grind (arith, c.if-not-is_open.ensures.within refl, ap length c.deref.ensures.value) in
+    let gone = c.end_client-in-NoMemory-trouble.ensures.clients ∙ set_twice c.self.inside.clients.items c.args.c.0 c.hear_slot-heard.new.slot None in
+    subst (λ (es : List End). IsSteady g.B.Bay.tells (g.B.Bay.connection c.end_client-in-NoMemory-trouble.new.bay) c.self.inside.paints c.self.inside.place c.self.inside.desk c.end_client-in-NoMemory-trouble.new.clients.items es (g.B.Bay.provider c.end_client-in-NoMemory-trouble.new.bay).count) (sym c.end_client-in-NoMemory-trouble.ensures.ends)
+    (subst (λ (cs : List (Option ClientSeen)). IsSteady g.B.Bay.tells (g.B.Bay.connection c.end_client-in-NoMemory-trouble.new.bay) c.self.inside.paints c.self.inside.place c.self.inside.desk cs (set c.self.inside.ends.items c.args.c.0 end.Short) (g.B.Bay.provider c.end_client-in-NoMemory-trouble.new.bay).count) (sym gone)
+    (steady_ended (g.B.Bay.connection c.end_client-in-NoMemory-trouble.new.bay) c.args.c.0 end.Short _ c.self.invariant within refl (ap (λ p. p.count) (c.end_client-in-NoMemory-trouble.ensures.provider ∙ c.read.ensures.provider)) (λ d other. c.end_client-in-NoMemory-trouble.ensures.connections d ∙ c.read.ensures.others d other)))
+
+pub invariant_of-self-in-Again : goal.invariant_of-self-in-Again
+invariant_of-self-in-Again g c =
+    let same = c.in-Again.ensures.answer.2 in
+    steady_quiet (g.B.Bay.connection c.read.new.self) c.args.c.0 _ c.self.invariant (ap (λ p. p.count) c.read.ensures.provider) c.read.ensures.others (ap (λ r. r.sent) same) (ap (λ r. r.given) same) (ap (λ r. r.heard) same)
+
+pub invariant_of-self-in-End : goal.invariant_of-self-in-End
+invariant_of-self-in-End g c =
+    let same = c.in-End.ensures.answer.2 in
+    steady_quiet (g.B.Bay.connection c.read.new.self) c.args.c.0 _ c.self.invariant (ap (λ p. p.count) c.read.ensures.provider) c.read.ensures.others (ap (λ r. r.sent) same) (ap (λ r. r.given) same) (ap (λ r. r.heard) same)
+
+pub invariant_of-self-in-Failed : goal.invariant_of-self-in-Failed
+invariant_of-self-in-Failed g c =
+    let same = c.in-Failed.ensures.answer.2 in
+    steady_quiet (g.B.Bay.connection c.read.new.self) c.args.c.0 _ c.self.invariant (ap (λ p. p.count) c.read.ensures.provider) c.read.ensures.others (ap (λ r. r.sent) same) (ap (λ r. r.given) same) (ap (λ r. r.heard) same)
+
+pub invariant_of-self-in-NoMemory : goal.invariant_of-self-in-NoMemory
+invariant_of-self-in-NoMemory g c =
+    let same = c.in-NoMemory.ensures.answer.1 in
+    steady_quiet (g.B.Bay.connection c.read.new.self) c.args.c.0 _ c.self.invariant (ap (λ p. p.count) c.read.ensures.provider) c.read.ensures.others (ap (λ r. r.sent) same) (ap (λ r. r.given) same) (ap (λ r. r.heard) same)
+
 pub returns-in-Unbuilt-clause-answer : goal.returns-in-Unbuilt-clause-answer
 returns-in-Unbuilt-clause-answer g c =
     let within : c.args.c.0 < length c.self.inside.clients.items = grind (arith, c.if-not-is_open.ensures.within refl, ap length c.deref.ensures.value) in
@@ -59,8 +85,9 @@ returns-in-Unbuilt-clause-answer g c =
     let gives = subst (λ (xs : List ℕ). ReadGives (g.B.Bay.connection c.self.inside.bay c.args.c.0) (g.B.Bay.connection c.read.new.self c.args.c.0) xs c.read.new.into.items 4096 (G.Bytes c.in-Bytes.count)) c.new-bytes.ensures.items c.in-Bytes.ensures.answer in
     let unbuilt = rw (c.as_slice.ensures.value, c.as_slice-in-Bytes.ensures.items) at c.hear_slot-heard.ensures.unbuilt (c.in-Err.is ∙ ap (λ (t : Trouble). Err t) c.in-Unbuilt.is) in
     let why = why_unbuilt _ _ c.self.inside.paints c.self.inside.desk c.index_mut-slot.result.now c.read.new.into.items c.in-Bytes.count filled gives unbuilt in
-    rw (← c.self.view_is, c.end_unbuilt.ensures.answer) (receives_ended g.B.Bay.connection _ _ c.self.inside.desk _ c.self.inside.clients.items c.self.inside.bay c.read.new.self c.end_unbuilt.new.self c.args.c.0 end.Unbuilt (R.Ended end.Unbuilt) (plain_clients (set c.self.inside.clients.items c.args.c.0 c.hear_slot-heard.new.slot)) c.index_mut-slot.result.now within c.index_mut-slot.ensures.value refl why
-    (c.end_unbuilt.ensures.connections c.args.c.0) (clients_gone c.self.inside.clients.items c.args.c.0 c.hear_slot-heard.new.slot) c.end_unbuilt.ensures.session)
+    let gone = dropped_is c.self.inside.paints c.self.inside.place c.self.inside.desk c.self.inside.ends.items _ (set c.self.inside.clients.items c.args.c.0 c.hear_slot-heard.new.slot) _ c.read.new.self _ c.args.c.0 end.Unbuilt c.end_client.ensures.clients c.end_client.ensures.ends in
+    rw (← c.self.view_is) (receives_ended g.B.Bay.connection _ _ c.self.inside.desk _ c.self.inside.clients.items c.self.inside.bay c.read.new.self _ c.args.c.0 end.Unbuilt (R.Ended end.Unbuilt) (plain_clients (set c.self.inside.clients.items c.args.c.0 c.hear_slot-heard.new.slot)) c.index_mut-slot.result.now within c.index_mut-slot.ensures.value refl why
+    (c.end_client.ensures.connections c.args.c.0) (clients_gone c.self.inside.clients.items c.args.c.0 c.hear_slot-heard.new.slot) gone)
 
 pub returns-in-Bytes-clause-answer : goal.returns-in-Bytes-clause-answer
 returns-in-Bytes-clause-answer g c =
@@ -69,8 +96,20 @@ returns-in-Bytes-clause-answer g c =
     let filled = slot_some c.self.inside.clients.items c.args.c.0 c.index_mut-slot.result.now within c.index_mut-slot.ensures.value some in
     let gives = subst (λ (xs : List ℕ). ReadGives (g.B.Bay.connection c.self.inside.bay c.args.c.0) (g.B.Bay.connection c.read.new.self c.args.c.0) xs c.read.new.into.items 4096 (G.Bytes c.in-Bytes.count)) c.new-bytes.ensures.items c.in-Bytes.ensures.answer in
     let why = why_short _ _ c.self.inside.paints c.self.inside.desk c.index_mut-slot.result.now c.read.new.into.items c.in-Bytes.count filled gives in
-    rw (← c.self.view_is, c.end_short.ensures.answer) (receives_ended g.B.Bay.connection _ _ c.self.inside.desk _ c.self.inside.clients.items c.self.inside.bay c.read.new.self c.end_short.new.self c.args.c.0 end.Short R.NoMemory (plain_clients (set c.self.inside.clients.items c.args.c.0 c.hear_slot-heard.new.slot)) c.index_mut-slot.result.now within c.index_mut-slot.ensures.value refl why
-    (c.end_short.ensures.connections c.args.c.0) (clients_gone c.self.inside.clients.items c.args.c.0 c.hear_slot-heard.new.slot) c.end_short.ensures.session)
+    let gone = dropped_is c.self.inside.paints c.self.inside.place c.self.inside.desk c.self.inside.ends.items _ (set c.self.inside.clients.items c.args.c.0 c.hear_slot-heard.new.slot) _ c.read.new.self _ c.args.c.0 end.Short c.end_client-in-NoMemory-trouble.ensures.clients c.end_client-in-NoMemory-trouble.ensures.ends in
+    rw (← c.self.view_is) (receives_ended g.B.Bay.connection _ _ c.self.inside.desk _ c.self.inside.clients.items c.self.inside.bay c.read.new.self _ c.args.c.0 end.Short R.NoMemory (plain_clients (set c.self.inside.clients.items c.args.c.0 c.hear_slot-heard.new.slot)) c.index_mut-slot.result.now within c.index_mut-slot.ensures.value refl why
+    (c.end_client-in-NoMemory-trouble.ensures.connections c.args.c.0) (clients_gone c.self.inside.clients.items c.args.c.0 c.hear_slot-heard.new.slot) gone)
+
+pub returns-in-Unbuilt-clause-means : goal.returns-in-Unbuilt-clause-means
+returns-in-Unbuilt-clause-means g c =
+    let within : c.args.c.0 < length c.self.inside.clients.items = grind (arith, c.if-not-is_open.ensures.within refl, ap length c.deref.ensures.value) in
+    let some : IsSome (open_client c.self.inside.clients.items c.args.c.0) = subst (λ (xs : List (Option ClientSeen)). IsSome (open_client xs c.args.c.0)) c.deref.ensures.value (c.if-not-is_open.ensures.open.0 refl) in
+    let filled = slot_some c.self.inside.clients.items c.args.c.0 c.index_mut-slot.result.now within c.index_mut-slot.ensures.value some in
+    let gives = subst (λ (xs : List ℕ). ReadGives (g.B.Bay.connection c.self.inside.bay c.args.c.0) (g.B.Bay.connection c.read.new.self c.args.c.0) xs c.read.new.into.items 4096 (G.Bytes c.in-Bytes.count)) c.new-bytes.ensures.items c.in-Bytes.ensures.answer in
+    let unbuilt = rw (c.as_slice.ensures.value, c.as_slice-in-Bytes.ensures.items) at c.hear_slot-heard.ensures.unbuilt (c.in-Err.is ∙ ap (λ (t : Trouble). Err t) c.in-Unbuilt.is) in
+    let kept = each_here (IsKeptOf g.B.Bay.tells c.self.inside.paints c.self.inside.desk) (g.B.Bay.connection c.self.inside.bay) c.self.inside.clients.items c.args.c.0 c.index_mut-slot.result.now (λ d x is. (c.self.invariant.told d x is, c.self.invariant.known d x is)) within c.index_mut-slot.ensures.value in
+    subst (IsUnbuiltFor c.self.inside.paints) (sym (c.end_client.ensures.connections c.args.c.0))
+    (unbuilt_means g.B.Bay.tells c.self.inside.paints c.self.inside.desk _ _ c.index_mut-slot.result.now c.read.new.into.items c.in-Bytes.count filled gives unbuilt kept)
 
 pub returns-in-End-clause-answer : goal.returns-in-End-clause-answer
 returns-in-End-clause-answer g c =
@@ -80,8 +119,8 @@ returns-in-End-clause-answer g c =
     let filled = slot_some c.self.inside.clients.items c.args.c.0 (Some stands.0) within stands.1 some in
     let gives = c.in-End.ensures.answer in
     let why = why_end (g.B.Bay.connection c.self.inside.bay c.args.c.0) (g.B.Bay.connection c.read.new.self c.args.c.0) c.self.inside.paints c.self.inside.desk (Some stands.0) filled (refl, gives.1, gives.2) in
-    rw (← c.self.view_is, c.end_unbuilt-in-End.ensures.answer) (receives_ended g.B.Bay.connection _ _ c.self.inside.desk _ c.self.inside.clients.items c.self.inside.bay c.read.new.self c.end_unbuilt-in-End.new.self c.args.c.0 end.Unbuilt (R.Ended end.Unbuilt) (plain_clients c.self.inside.clients.items) (Some stands.0) within stands.1 refl why
-    (c.end_unbuilt-in-End.ensures.connections c.args.c.0) refl c.end_unbuilt-in-End.ensures.session)
+    rw (← c.self.view_is) (receives_ended g.B.Bay.connection _ _ c.self.inside.desk _ c.self.inside.clients.items c.self.inside.bay c.read.new.self c.drop_client.new.self c.args.c.0 end.Unbuilt (R.Ended end.Unbuilt) (plain_clients c.self.inside.clients.items) (Some stands.0) within stands.1 refl why
+    (c.drop_client.ensures.connections c.args.c.0) refl c.drop_client.ensures.session)
 
 pub returns-in-Failed-clause-answer : goal.returns-in-Failed-clause-answer
 returns-in-Failed-clause-answer g c =
@@ -91,8 +130,8 @@ returns-in-Failed-clause-answer g c =
     let filled = slot_some c.self.inside.clients.items c.args.c.0 (Some stands.0) within stands.1 some in
     let gives = c.in-Failed.ensures.answer in
     let why = why_failed (g.B.Bay.connection c.self.inside.bay c.args.c.0) (g.B.Bay.connection c.read.new.self c.args.c.0) c.self.inside.paints c.self.inside.desk (Some stands.0) filled (refl, gives.1, gives.2) in
-    rw (← c.self.view_is, c.end_unbuilt-in-Failed.ensures.answer) (receives_ended g.B.Bay.connection _ _ c.self.inside.desk _ c.self.inside.clients.items c.self.inside.bay c.read.new.self c.end_unbuilt-in-Failed.new.self c.args.c.0 end.Unbuilt (R.Ended end.Unbuilt) (plain_clients c.self.inside.clients.items) (Some stands.0) within stands.1 refl why
-    (c.end_unbuilt-in-Failed.ensures.connections c.args.c.0) refl c.end_unbuilt-in-Failed.ensures.session)
+    rw (← c.self.view_is) (receives_ended g.B.Bay.connection _ _ c.self.inside.desk _ c.self.inside.clients.items c.self.inside.bay c.read.new.self c.drop_client-in-Failed.new.self c.args.c.0 end.Unbuilt (R.Ended end.Unbuilt) (plain_clients c.self.inside.clients.items) (Some stands.0) within stands.1 refl why
+    (c.drop_client-in-Failed.ensures.connections c.args.c.0) refl c.drop_client-in-Failed.ensures.session)
 
 pub returns-clause-answer : goal.returns-clause-answer
 returns-clause-answer g c =
@@ -102,16 +141,5 @@ returns-clause-answer g c =
     let filled = slot_some c.self.inside.clients.items c.args.c.0 (Some stands.0) within stands.1 some in
     let gives = c.in-NoMemory.ensures.answer in
     let why = why_unread (g.B.Bay.connection c.self.inside.bay c.args.c.0) (g.B.Bay.connection c.read.new.self c.args.c.0) c.self.inside.paints c.self.inside.desk (Some stands.0) filled (refl, gives.1) in
-    rw (← c.self.view_is, c.end_short-in-NoMemory.ensures.answer) (receives_ended g.B.Bay.connection _ _ c.self.inside.desk _ c.self.inside.clients.items c.self.inside.bay c.read.new.self c.end_short-in-NoMemory.new.self c.args.c.0 end.Short R.NoMemory (plain_clients c.self.inside.clients.items) (Some stands.0) within stands.1 refl why
-    (c.end_short-in-NoMemory.ensures.connections c.args.c.0) refl c.end_short-in-NoMemory.ensures.session)
-
-pub invariant_of-self-in-NoMemory-trouble : goal.invariant_of-self-in-NoMemory-trouble
-invariant_of-self-in-NoMemory-trouble g c =
-    let within : c.args.c.0 < length c.self.inside.clients.items = grind (arith, c.if-not-is_open.ensures.within refl, ap length c.deref.ensures.value) in
-    let was = told_here (g.B.Bay.connection c.self.inside.bay) c.self.inside.desk c.self.inside.clients.items c.args.c.0 c.index_mut-slot.result.now c.self.invariant.told within c.index_mut-slot.ensures.value in
-    let same = same_sent c.self.inside.desk c.index_mut-slot.result.now _ _ (ap (λ (r : ConnectionRecord). r.sent) c.in-Bytes.ensures.answer.5) was in
-    record {
-      session = session_slot c.args.c.0 c.index_mut-slot.result.now c.hear_slot-heard.new.slot _ c.self.invariant.session c.index_mut-slot.ensures.value c.hear_slot-heard.ensures.kept (ap (λ p. p.count) c.read.ensures.provider);
-      told = told_slot _ _ c.self.inside.desk c.self.inside.clients.items c.args.c.0 c.hear_slot-heard.new.slot c.self.invariant.told c.read.ensures.others within
-          (slot_no_more c.self.inside.desk _ c.index_mut-slot.result.now c.hear_slot-heard.new.slot c.len-count.ensures.kept c.in-Err.ensures.left same);
-    }
+    rw (← c.self.view_is) (receives_ended g.B.Bay.connection _ _ c.self.inside.desk _ c.self.inside.clients.items c.self.inside.bay c.read.new.self c.drop_client-in-NoMemory.new.self c.args.c.0 end.Short R.NoMemory (plain_clients c.self.inside.clients.items) (Some stands.0) within stands.1 refl why
+    (c.drop_client-in-NoMemory.ensures.connections c.args.c.0) refl c.drop_client-in-NoMemory.ensures.session)

@@ -1,8 +1,55 @@
-use Rattle.std.proofs.Common.{◌∙◌}
+use Rattle.std.proofs.Common.{◌≤◌, ◌∙◌, rules, arith, subst}
+use Rattle.xp_base.specs.Counts.{Rose}
+use Rattle.session_core.proofs.Acting.{acts_receive}
 use Rattle.session_core.proofs.Calms.{receives_again}
+use Rattle.session_core.proofs.Stepping.{receives_closed, receives_took, receives_near, receives_waited, receives_unwaited, receives_rose, receives_past}
 use Rattle.session_core.proofs.state.Session.receive_all.Goals as goal
 
 pub returns-in-Again-clause-quiet : goal.returns-in-Again-clause-quiet
-returns-in-Again-clause-quiet g c = λ same.
-    let found = receives_again g.B.Bay.connection c.args.c.0 c.reads.self c.receive.new.self c.in-Again.ensures.answer in
-    (found.0 ∙ c.reads.invariant.quiet same, found.1)
+returns-in-Again-clause-quiet g c = λ same. (receives_again g.B.Bay.connection c.args.c.0 c.reads.self c.receive.new.self c.in-Again.ensures.answer).0 ∙ c.reads.invariant.quiet same
+
+pub returns-in-Again-clause-open : goal.returns-in-Again-clause-open
+returns-in-Again-clause-open g c = (receives_waited g.B.Bay.connection c.args.c.0 c.reads.self c.receive.new.self c.reads.invariant.present c.in-Again.ensures.answer).0
+
+pub returns-in-Again-clause-heard : goal.returns-in-Again-clause-heard
+returns-in-Again-clause-heard g c = (receives_waited g.B.Bay.connection c.args.c.0 c.reads.self c.receive.new.self c.reads.invariant.present c.in-Again.ensures.answer).1
+
+pub returns-in-Again-clause-acts : goal.returns-in-Again-clause-acts
+returns-in-Again-clause-acts g c = acts_receive g.B.Bay.provider g.B.Bay.connection c.args.c.0 _ c.reads.self c.receive.new.self c.receive.result c.reads.invariant.acts c.receive.ensures.provider c.receive.ensures.others c.receive.ensures.answer
+
+pub unreachable-requires : goal.unreachable-requires
+unreachable-requires g c = receives_closed g.B.Bay.connection c.args.c.0 c.reads.self c.receive.new.self c.reads.invariant.present c.in-Closed.ensures.answer
+
+pub returns-in-Ended-clause-acts : goal.returns-in-Ended-clause-acts
+returns-in-Ended-clause-acts g c = acts_receive g.B.Bay.provider g.B.Bay.connection c.args.c.0 _ c.reads.self c.receive.new.self c.receive.result c.reads.invariant.acts c.receive.ensures.provider c.receive.ensures.others c.receive.ensures.answer
+
+pub returns-in-NoMemory-clause-acts : goal.returns-in-NoMemory-clause-acts
+returns-in-NoMemory-clause-acts g c = acts_receive g.B.Bay.provider g.B.Bay.connection c.args.c.0 _ c.reads.self c.receive.new.self c.receive.result c.reads.invariant.acts c.receive.ensures.provider c.receive.ensures.others c.receive.ensures.answer
+
+pub returns-then-count-left-clause-acts : goal.returns-then-count-left-clause-acts
+returns-then-count-left-clause-acts g c = acts_receive g.B.Bay.provider g.B.Bay.connection c.args.c.0 _ c.reads.self c.receive.new.self c.receive.result c.reads.invariant.acts c.receive.ensures.provider c.receive.ensures.others c.receive.ensures.answer
+
+pub returns-then-count-left-clause-means : goal.returns-then-count-left-clause-means
+returns-then-count-left-clause-means g c =
+    receives_past g.B.Bay.connection g.B.Bay.tells c.args.c.0 c.in-Took.count c.reads.left c.reads.self c.receive.new.self c.reads.invariant.present c.in-Took.ensures.answer (omega (arith, c.if-count-left.true)) c.reads.invariant.near
+    c.is_painted.ensures.lines c.is_painted.ensures.known
+
+pub reads-preserved : goal.reads-preserved
+reads-preserved g c =
+    let low : c.in-Took.count ≤ c.reads.left = omega (arith, c.if-count-left.false) in
+    record {
+      windows = search (rules);
+      present = receives_took g.B.Bay.connection c.args.c.0 c.in-Took.count c.reads.self c.receive.new.self c.reads.invariant.present c.in-Took.ensures.answer;
+      near = receives_near g.B.Bay.connection c.args.c.0 c.in-Took.count c.reads.left c.reads.self c.receive.new.self c.reads.invariant.present c.in-Took.ensures.answer low c.reads.invariant.near;
+      unwaited = receives_unwaited g.B.Bay.connection c.args.c.0 c.in-Took.count c.reads.self c.receive.new.self c.reads.invariant.present c.in-Took.ensures.answer ∙ c.reads.invariant.unwaited;
+      acts = acts_receive g.B.Bay.provider g.B.Bay.connection c.args.c.0 _ c.reads.self c.receive.new.self c.receive.result c.reads.invariant.acts c.receive.ensures.provider c.receive.ensures.others c.receive.ensures.answer;
+      ends = search (rules);
+      quiet = search (rules);
+      less = search (rules);
+      others = search (rules);
+      provider = search (rules);
+    }
+
+pub returns-in-Again-clause-waited : goal.returns-in-Again-clause-waited
+returns-in-Again-clause-waited g c =
+    subst (λ n. Rose n (g.B.Bay.connection c.receive.new.self.bay c.args.c.0).waits) c.reads.invariant.unwaited (receives_rose g.B.Bay.connection c.args.c.0 c.reads.self c.receive.new.self c.reads.invariant.present c.in-Again.ensures.answer)

@@ -1,11 +1,18 @@
 use Rattle.std.proofs.Common.{◌≡◌, ◌≤◌}
+use Rattle.std.specs.Prelude.{IsSome}
 use Rattle.link_bay.specs.Connections.{OthersStay}
-use Rattle.session_core.specs.State.{KeepsWindows}
+use Rattle.session_core.specs.Causes.{ReachesFlood}
+use Rattle.session_core.specs.Settling.{Acts}
+use Rattle.session_core.specs.State.{KeepsWindows, open_client}
 use Rattle.session_core.proofs.state.Session.receive_all.Given as goal
 
 abbrev pub invariant-reads : goal.invariant-reads
 invariant-reads g l = record {
   windows : KeepsWindows l.initial.self l.self;
+  present : IsSome (open_client l.self.clients l.c.0);
+  near : ReachesFlood l.left (g.B.Bay.connection l.self.bay l.c.0).given;
+  unwaited : (g.B.Bay.connection l.self.bay l.c.0).waits ≡ (g.B.Bay.connection l.initial.self.bay l.c.0).waits;
+  acts : Acts g.B.Bay.provider g.B.Bay.connection l.c.0 l.initial.self l.self;
   ends : l.self.ends ≡ l.initial.self.ends;
   quiet : l.left ≡ l.budget → l.self.clients ≡ l.initial.self.clients;
   less : l.left ≤ l.budget;

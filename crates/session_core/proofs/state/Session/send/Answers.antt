@@ -3,8 +3,7 @@ use Rattle.std.specs.Prelude.{Option, IsSome}
 use Rattle.session_core.specs.Clients.{ClientSeen}
 use Rattle.session_core.specs.State.{open_client}
 use Rattle.session_core.specs.Ends.{waiting_at}
-use Rattle.session_core.proofs.Lives.{session_slot}
-use Rattle.session_core.proofs.Steadies.{told_slot, told_here, slot_written, slot_failed}
+use Rattle.session_core.proofs.Steadies.{steady_slot, slot_written, slot_failed}
 use Rattle.session_core.proofs.Lessening.{written_less, gone_at}
 use Rattle.session_core.proofs.Writings.{sends_written, sends_failed, slot_some}
 use Rattle.session_core.proofs.state.Session.send.Goals as goal
@@ -12,22 +11,14 @@ use Rattle.session_core.proofs.state.Session.send.Goals as goal
 pub invariant_of-self : goal.invariant_of-self
 invariant_of-self g c =
     let within : c.args.c.0 < length c.self.inside.clients.items = grind (arith, c.if-not-is_open.ensures.within refl, ap length c.deref.ensures.value) in
-    let was = told_here (g.B.Bay.connection c.self.inside.bay) c.self.inside.desk c.self.inside.clients.items c.args.c.0 c.index_mut-slot.result.now c.self.invariant.told within c.index_mut-slot.ensures.value in
-    record {
-      session = session_slot c.args.c.0 c.index_mut-slot.result.now c.send_slot.new.slot _ c.self.invariant.session c.index_mut-slot.ensures.value c.send_slot.ensures.kept (ap (λ p. p.count) c.send_slot.ensures.provider);
-      told = told_slot _ _ c.self.inside.desk c.self.inside.clients.items c.args.c.0 c.send_slot.new.slot c.self.invariant.told c.send_slot.ensures.others within
-          (slot_written c.self.inside.desk c.args.max _ _ c.index_mut-slot.result.now c.send_slot.new.slot c.in-Ok.answer c.in-Ok.ensures.ok was);
-    }
+    steady_slot _ c.args.c.0 c.index_mut-slot.result.now c.send_slot.new.slot _ c.self.invariant within c.index_mut-slot.ensures.value c.send_slot.ensures.kept (ap (λ p. p.count) c.send_slot.ensures.provider) c.send_slot.ensures.others
+    (slot_written g.B.Bay.tells c.self.inside.paints c.self.inside.desk c.args.max _ _ c.index_mut-slot.result.now c.send_slot.new.slot c.in-Ok.answer c.in-Ok.ensures.ok)
 
 pub invariant_of-self-in-Err : goal.invariant_of-self-in-Err
 invariant_of-self-in-Err g c =
     let within : c.args.c.0 < length c.self.inside.clients.items = grind (arith, c.if-not-is_open.ensures.within refl, ap length c.deref.ensures.value) in
-    let was = told_here (g.B.Bay.connection c.self.inside.bay) c.self.inside.desk c.self.inside.clients.items c.args.c.0 c.index_mut-slot.result.now c.self.invariant.told within c.index_mut-slot.ensures.value in
-    record {
-      session = session_slot c.args.c.0 c.index_mut-slot.result.now c.send_slot.new.slot _ c.self.invariant.session c.index_mut-slot.ensures.value c.send_slot.ensures.kept (ap (λ p. p.count) c.send_slot.ensures.provider);
-      told = told_slot _ _ c.self.inside.desk c.self.inside.clients.items c.args.c.0 c.send_slot.new.slot c.self.invariant.told c.send_slot.ensures.others within
-          (slot_failed c.self.inside.desk c.args.max _ _ c.index_mut-slot.result.now c.send_slot.new.slot c.in-Err.ensures.failed c.in-Err.ensures.same was);
-    }
+    steady_slot _ c.args.c.0 c.index_mut-slot.result.now c.send_slot.new.slot _ c.self.invariant within c.index_mut-slot.ensures.value c.send_slot.ensures.kept (ap (λ p. p.count) c.send_slot.ensures.provider) c.send_slot.ensures.others
+    (slot_failed g.B.Bay.tells c.self.inside.paints c.self.inside.desk c.args.max _ _ c.index_mut-slot.result.now c.send_slot.new.slot c.in-Err.ensures.failed c.in-Err.ensures.same)
 
 pub returns-in-Ok-clause-answer : goal.returns-in-Ok-clause-answer
 returns-in-Ok-clause-answer g c =

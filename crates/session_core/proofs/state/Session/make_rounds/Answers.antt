@@ -1,0 +1,50 @@
+use Rattle.std.proofs.Common.{◌≤◌, rules, arith, ap}
+use Rattle.session_core.proofs.Acting.{acts_on}
+use Rattle.session_core.proofs.Settled.{on_ok}
+use Rattle.session_core.proofs.state.Session.make_rounds.Goals as goal
+
+pub returns-in_err-capture_all-clause-acts : goal.returns-in_err-capture_all-clause-acts
+returns-in_err-capture_all-clause-acts g c =
+    acts_on g.B.Bay.provider g.B.Bay.connection c.args.c.0 _ c.rounds.self c.capture_all.new.self (acts_on g.B.Bay.provider g.B.Bay.connection c.args.c.0 _ c.receive_all.new.self c.rounds.self c.receive_all.ensures.acts c.rounds.invariant.acts) c.capture_all.ensures.acts
+
+pub returns-in_err-send_all-clause-acts : goal.returns-in_err-send_all-clause-acts
+returns-in_err-send_all-clause-acts g c =
+    let before = acts_on g.B.Bay.provider g.B.Bay.connection c.args.c.0 _ c.receive_all.new.self c.rounds.self c.receive_all.ensures.acts c.rounds.invariant.acts in
+    acts_on g.B.Bay.provider g.B.Bay.connection c.args.c.0 _ c.capture_all.new.self c.send_all.new.self (acts_on g.B.Bay.provider g.B.Bay.connection c.args.c.0 _ c.rounds.self c.capture_all.new.self before c.capture_all.ensures.acts) c.send_all.ensures.acts
+
+pub returns-in_err-rest-clause-acts : goal.returns-in_err-rest-clause-acts
+returns-in_err-rest-clause-acts g c =
+    let before = acts_on g.B.Bay.provider g.B.Bay.connection c.args.c.0 _ c.receive_all.new.self c.rounds.self c.receive_all.ensures.acts c.rounds.invariant.acts in
+    let captured = acts_on g.B.Bay.provider g.B.Bay.connection c.args.c.0 _ c.rounds.self c.capture_all.new.self before c.capture_all.ensures.acts in
+    let sent = acts_on g.B.Bay.provider g.B.Bay.connection c.args.c.0 _ c.capture_all.new.self c.send_all.new.self captured c.send_all.ensures.acts in
+    acts_on g.B.Bay.provider g.B.Bay.connection c.args.c.0 _ c.send_all.new.self c.receive_all-in-rounds.new.self sent c.receive_all-in-rounds.ensures.acts
+
+pub returns-then-rest-left-clause-acts : goal.returns-then-rest-left-clause-acts
+returns-then-rest-left-clause-acts g c =
+    let before = acts_on g.B.Bay.provider g.B.Bay.connection c.args.c.0 _ c.receive_all.new.self c.rounds.self c.receive_all.ensures.acts c.rounds.invariant.acts in
+    let captured = acts_on g.B.Bay.provider g.B.Bay.connection c.args.c.0 _ c.rounds.self c.capture_all.new.self before c.capture_all.ensures.acts in
+    let sent = acts_on g.B.Bay.provider g.B.Bay.connection c.args.c.0 _ c.capture_all.new.self c.send_all.new.self captured c.send_all.ensures.acts in
+    acts_on g.B.Bay.provider g.B.Bay.connection c.args.c.0 _ c.send_all.new.self c.receive_all-in-rounds.new.self sent c.receive_all-in-rounds.ensures.acts
+
+pub rounds-preserved : goal.rounds-preserved
+rounds-preserved g c =
+    let captured = acts_on g.B.Bay.provider g.B.Bay.connection c.args.c.0 _ c.rounds.self c.capture_all.new.self c.rounds.invariant.acts c.capture_all.ensures.acts in
+    let sent = acts_on g.B.Bay.provider g.B.Bay.connection c.args.c.0 _ c.capture_all.new.self c.send_all.new.self captured c.send_all.ensures.acts in
+    record {
+      windows = search (rules);
+      present = search (rules);
+      near = search (rules);
+      later = omega (arith, c.rounds.invariant.later, ap (λ b. (g.B.Bay.connection b c.args.c.0).waits) c.capture_all.ensures.bay, c.in_ok-send_all.ensures.reads.1, c.in_ok-rest.ensures.waited.later);
+      acts = acts_on g.B.Bay.provider g.B.Bay.connection c.args.c.0 _ c.send_all.new.self c.receive_all-in-rounds.new.self sent c.receive_all-in-rounds.ensures.acts;
+      ends = search (rules);
+      others = search (rules);
+      provider = search (rules);
+    }
+
+pub returns-then-rest-left-clause-waited : goal.returns-then-rest-left-clause-waited
+returns-then-rest-left-clause-waited g c =
+    let first = c.in_ok-left.ensures.waited in
+    let captured = ap (λ b. (g.B.Bay.connection b c.args.c.0).waits) c.capture_all.ensures.bay in
+    let more : (g.B.Bay.connection c.receive_all.new.self.bay c.args.c.0).waits ≤ (g.B.Bay.connection c.receive_all-in-rounds.new.self.bay c.args.c.0).waits =
+    omega (arith, c.rounds.invariant.later, captured, c.in_ok-send_all.ensures.reads.1, c.in_ok-rest.ensures.waited.later) in
+    on_ok c.check_greeted.result (record { later = omega (arith, first.later, more); risen = omega (arith, first.risen, more) })

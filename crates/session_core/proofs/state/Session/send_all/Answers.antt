@@ -1,0 +1,28 @@
+use Rattle.std.proofs.Common.{rules}
+use Rattle.session_core.proofs.Acting.{acts_on}
+use Rattle.session_core.proofs.Stepping.{reads_then}
+use Rattle.session_core.proofs.state.Session.send_all.Goals as goal
+
+pub returns-in_err-wrote-clause-acts : goal.returns-in_err-wrote-clause-acts
+returns-in_err-wrote-clause-acts g c = acts_on g.B.Bay.provider g.B.Bay.connection c.args.c.0 _ c.writes.self c.send_some.new.self c.writes.invariant.acts c.send_some.ensures.acts
+
+pub returns-then-not-wrote-clause-acts : goal.returns-then-not-wrote-clause-acts
+returns-then-not-wrote-clause-acts g c = acts_on g.B.Bay.provider g.B.Bay.connection c.args.c.0 _ c.writes.self c.send_some.new.self c.writes.invariant.acts c.send_some.ensures.acts
+
+pub writes-preserved : goal.writes-preserved
+writes-preserved g c = record {
+  windows = search (rules);
+  present = search (rules);
+  reads = reads_then g.B.Bay.connection c.args.c.0 c.args.self.now.bay c.writes.self.bay c.send_some.new.self.bay c.writes.invariant.reads c.send_some.ensures.reads;
+  acts = acts_on g.B.Bay.provider g.B.Bay.connection c.args.c.0 _ c.writes.self c.send_some.new.self c.writes.invariant.acts c.send_some.ensures.acts;
+  ends = search (rules);
+  sources = search (rules);
+  others = search (rules);
+  provider = search (rules);
+}
+
+pub returns-in_err-wrote-clause-reads : goal.returns-in_err-wrote-clause-reads
+returns-in_err-wrote-clause-reads g c = reads_then g.B.Bay.connection c.args.c.0 c.args.self.now.bay c.writes.self.bay c.send_some.new.self.bay c.writes.invariant.reads c.send_some.ensures.reads
+
+pub returns-then-not-wrote-clause-reads : goal.returns-then-not-wrote-clause-reads
+returns-then-not-wrote-clause-reads g c = reads_then g.B.Bay.connection c.args.c.0 c.args.self.now.bay c.writes.self.bay c.send_some.new.self.bay c.writes.invariant.reads c.send_some.ensures.reads

@@ -1,0 +1,88 @@
+-- What each end of a connection means, read from what the provider knows of it.
+use Rattle.std.specs.Prelude.{ℕ, ◌+◌, ◌≤◌, ◌≡◌, ◌≢◌, ◌⊎◌, Bool, true, false, Option, Some, None, List, length, slice_get}
+use Rattle.link_bay.specs.Connections.{ConnectionRecord, OthersStay}
+use Rattle.window_model.specs.Desktop.{Window}
+use Rattle.paint_script.specs.declared.paint.Paint.{Paint}
+use Rattle.session_core.specs.declared.ends.End.{End}
+use Rattle.session_core.specs.declared.ends.End.TheVariants as end
+use Rattle.session_core.specs.Ends.{EndsOne}
+use Rattle.session_core.specs.Given.{IsBuilt, HasHello, TellsAll}
+use Rattle.session_core.specs.Mapped.{IsMapped}
+use Rattle.session_core.specs.Shown.{shows, Differs}
+use Rattle.session_core.specs.State.{is_unended}
+use Rattle.session_core.specs.Told.{layout}
+use Rattle.session_core.specs.Wire.{client_limit}
+use Rattle.packet_kinds.specs.Written.{Show}
+
+-- The bytes sent are whole packets without a fault, and the client shows exactly the desktop: its windows in their order, at their places, of their sizes, and in a window that it has
+-- mapped no point has another number.
+pub record ShowsExactly (desk : List Window) (r : ConnectionRecord) (sent : List ℕ) : Type 0 where
+  pub clean : Show client_limit sent (shows sent)
+  pub laid : layout (shows sent) ≡ layout desk
+  pub same : (wid x y : ℕ) → IsMapped r wid → Differs desk (shows sent) wid x y → ⊥
+
+-- a settled client: all that it said was read after the last byte was sent, it has said its hello and nothing that is not built,
+-- and it shows exactly the desktop
+pub record IsSettled (lines : List Paint) (desk : List Window) (r : ConnectionRecord) : Type 0 where
+  pub read_out : r.unheard ≡ 0
+  pub waited : r.waits ≢ 0
+  pub said : (given : List ℕ) → r.given ≡ Some given → HasHello given × IsBuilt lines given
+  pub shows : (sent : List ℕ) → r.sent ≡ Some sent → ShowsExactly desk r sent
+
+-- the bytes are of no form that is built, where they are told
+abbrev pub GaveUnbuilt : List Paint → Option (List ℕ) → Type 0
+GaveUnbuilt lines None = Unit {0}
+GaveUnbuilt lines (Some given) = IsBuilt lines given → ⊥
+
+-- the bytes hold no whole hello, where they are told
+abbrev pub GaveNoHello : Option (List ℕ) → Type 0
+GaveNoHello None = Unit {0}
+GaveNoHello (Some given) = HasHello given → ⊥
+
+-- the causes of the end `Unbuilt`: a read or a write failed; a read met the end; 1,000 writes in a row took nothing; the client
+-- said what is not built; or a read had to wait for a client that has not said its whole hello
+abbrev pub IsUnbuiltFor : List Paint → ConnectionRecord → Type 0
+IsUnbuiltFor lines r = (r.faults ≢ 0) ⊎ (r.ends ≢ 0) ⊎ ((1000 ≤ r.dry) × (1000 ≤ r.drought)) ⊎ GaveUnbuilt lines r.given ⊎ ((r.waits ≢ 0) × GaveNoHello r.given)
+
+-- a write leaves what was read and how often a read had to wait
+abbrev pub ReadsStay : ConnectionRecord → ConnectionRecord → Type 0
+ReadsStay was now = (now.given ≡ was.given) × (now.waits ≡ was.waits)
+
+-- its last read had to wait, and no byte was sent after it
+abbrev pub HasWaited : ConnectionRecord → Type 0
+HasWaited r = (r.unheard ≡ 0) × (r.waits ≢ 0)
+
+-- with so many bytes more it will have given as many as may be read
+abbrev pub ReachesFlood : ℕ → Option (List ℕ) → Type 0
+ReachesFlood budget None = Unit {0}
+ReachesFlood budget (Some given) = 4194304 ≤ budget + length given
+
+-- what the end means; `Short`, want of memory, may come at any time
+abbrev pub EndMeans : List Paint → List Window → End → ConnectionRecord → Type 0
+EndMeans lines desk end.Settled r = IsSettled lines desk r
+EndMeans lines desk end.Unbuilt r = IsUnbuiltFor lines r
+EndMeans lines desk end.Short r = Unit {0}
+EndMeans lines desk end.Unended r = Unit {0}
+
+-- an end with its cause, and a provider that tells its bytes tells those of the connection
+pub record HasCause (tells : Bool) (lines : List Paint) (desk : List Window) (e : End) (r : ConnectionRecord) : Type 0 where
+  pub means : EndMeans lines desk e r
+  pub tells_all : TellsAll tells r
+
+-- the connection has ended between these two times
+abbrev pub HasEnded : List End → List End → ℕ → End → Type 0
+HasEnded old new k e = (slice_get new k ≡ Some e) × (is_unended e ≡ false) × ((was : End) → slice_get old k ≡ Some was → is_unended was ≡ true)
+
+-- each connection that has ended between these two times has its cause
+abbrev pub EndsHaveCauses : Bool → List Paint → List Window → (ℕ → ConnectionRecord) → List End → List End → Type 0
+EndsHaveCauses tells lines desk connection old new = (k : ℕ) (e : End) → HasEnded old new k e → HasCause tells lines desk e (connection k)
+
+-- what is known of a connection that had ended stays
+abbrev pub EndedStay : (ℕ → ConnectionRecord) → (ℕ → ConnectionRecord) → List End → Type 0
+EndedStay was now ends = (k : ℕ) (e : End) → slice_get ends k ≡ Some e → is_unended e ≡ false → now k ≡ was k
+
+-- one connection that was open has ended so, rightly, and what is known of the others stays
+pub record EndsOneFor (tells : Bool) (lines : List Paint) (desk : List Window) (was now : ℕ → ConnectionRecord) (old new : List End) (e : End) : Type 0 where
+  pub ended : EndsOne old e new
+  pub right : HasCause tells lines desk e (now ended.number)
+  pub others : OthersStay was now ended.number
