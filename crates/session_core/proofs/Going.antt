@@ -8,14 +8,14 @@ use Rattle.paint_script.specs.declared.paint.Paint.{Paint}
 use Rattle.session_core.specs.declared.answers.Accepted.{Accepted}
 use Rattle.session_core.specs.declared.answers.Accepted.TheVariants as A
 use Rattle.session_core.specs.declared.ends.End.{End}
-use Rattle.session_core.specs.Causes.{EndsHaveCauses, EndsOneFor}
+use Rattle.session_core.specs.Causes.{EndsHaveCauses}
 use Rattle.session_core.specs.Ends.{KeepsEnds}
 use Rattle.session_core.specs.Settling.{SettlesOne, SettlesOn}
 use Rattle.session_core.specs.State.{Seen, KeepsWindows}
 use Rattle.session_core.specs.Steps.{Accepts, accepted_ends}
 use Rattle.session_core.proofs.Ended.{keeps_same, keeps_accepted}
 use Rattle.session_core.proofs.Acting.{settling_none, settling_once, settling_on}
-use Rattle.session_core.proofs.Rightly.{rightly_same, rightly_on, rightly_accepted, rightly_one, rightly_to, stays_one, stays_accepted, end_stays}
+use Rattle.session_core.proofs.Rightly.{EndsOneFor, rightly_same, rightly_on, rightly_accepted, rightly_one, rightly_to, stays_one, stays_accepted, end_stays}
 
 pub goes_none : {B : Type 0} (provider : B → ProviderRecord) (connection : B → ℕ → ConnectionRecord) (tells : Bool) (s : Seen B) → SettlesOn provider connection tells s s
 goes_none provider connection tells s = record {

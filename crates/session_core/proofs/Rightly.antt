@@ -8,10 +8,16 @@ use Rattle.window_model.specs.Desktop.{Window}
 use Rattle.paint_script.specs.declared.paint.Paint.{Paint}
 use Rattle.session_core.specs.declared.ends.End.{End}
 use Rattle.session_core.specs.declared.ends.End.TheVariants.{Unended}
-use Rattle.session_core.specs.Causes.{HasCause, HasEnded, EndsHaveCauses, EndedStay, EndsOneFor}
-use Rattle.session_core.specs.Ends.{KeepsEnds}
+use Rattle.session_core.specs.Causes.{HasCause, HasEnded, EndsHaveCauses, EndedStay}
+use Rattle.session_core.specs.Ends.{KeepsEnds, EndsOne}
 use Rattle.session_core.specs.State.{is_unended}
 use Rattle.session_core.proofs.Sources.{some_same}
+
+-- one connection that was open has ended so, with its cause, and what is known of the others stays
+pub record EndsOneFor (tells : Bool) (lines : List Paint) (desk : List Window) (was now : ℕ → ConnectionRecord) (old new : List End) (e : End) : Type 0 where
+  pub ended : EndsOne old e new
+  pub cause : HasCause tells lines desk e (now ended.number)
+  pub others : OthersStay was now ended.number
 
 got_or : {A : Type 0} (xs : List A) (k : ℕ) (x d : A) → slice_get xs k ≡ Some x → slice_index_or xs k d ≡ x
 got_or [] zero x d is = absurd (cc is)
@@ -84,7 +90,7 @@ rightly_one tells lines desk was now old new ended one = λ k e has.
     elim (cases_eq k one.ended.number) [
       | inl same ↦
           let which : e ≡ ended = got_here old one.ended.number ended e (ap (slice_get (set old one.ended.number ended)) (sym same) ∙ is) in
-          subst (λ (x : End). HasCause tells lines desk x (now k)) (sym which) (subst (λ (n : ℕ). HasCause tells lines desk ended (now n)) (sym same) one.right)
+          subst (λ (x : End). HasCause tells lines desk x (now k)) (sym which) (subst (λ (n : ℕ). HasCause tells lines desk ended (now n)) (sym same) one.cause)
       | inr other ↦ absurd (cc (sym (has.2 e (sym (got_set old one.ended.number k ended other) ∙ is)) ∙ has.1))
     ]
 

@@ -1,8 +1,9 @@
 -- A client for which nothing waits, and of whose mapped windows nothing is pending, shows exactly the desktop.
-use Rattle.std.proofs.Common.{◌≡◌, ◌≢◌, ◌||◌, ◌&&◌, ℕ, Bool, true, false, List, [], ◌++◌, map, drop, Option, Some, None, refl, ap, ◌∙◌, sym, subst}
+use Rattle.std.proofs.Common.{◌≡◌, ◌||◌, ◌&&◌, inl, inr, ℕ, Bool, true, false, List, [], ◌++◌, map, drop, Option, Some, None, refl, ap, ◌∙◌, sym, subst}
 use Rattle.std.specs.List.{concat, list_any}
 use Rattle.std.specs.Prelude.{is_some, IsSome, IsSomeAnd, Result, Ok, Err, OnOk, IfErr}
 use Rattle.std.proofs.lemmas.List.{append-nil}
+use Rattle.xp_base.specs.Counts.{Rose}
 use Rattle.link_bay.specs.Connections.{ConnectionRecord}
 use Rattle.window_model.specs.Desktop.{Window, IsDesktop, has_window}
 use Rattle.paint_script.specs.declared.paint.Paint.{Paint}
@@ -12,8 +13,9 @@ use Rattle.session_core.specs.declared.packet.Packet.{Packet}
 use Rattle.session_core.specs.declared.source.Source.{Source}
 use Rattle.session_core.specs.Calm.{AreClean, IsCalm}
 use Rattle.session_core.specs.declared.ends.End.{End}
+use Rattle.session_core.specs.declared.ends.End.TheVariants as E
 use Rattle.session_core.specs.declared.ends.End.TheVariants.{Settled}
-use Rattle.session_core.specs.Causes.{IsSettled, HasWaited, EndMeans, HasCause}
+use Rattle.session_core.specs.Causes.{IsSettled, HasWaited, EndMeans, RoundsMean, SettlingMeans, HasCause}
 use Rattle.session_core.specs.Ends.{rounds_end}
 use Rattle.session_core.specs.State.{open_client}
 use Rattle.session_core.specs.Clients.{ClientSeen, front_rest}
@@ -29,6 +31,7 @@ use Rattle.session_core.specs.Shown.{shows, Differs, unsent}
 use Rattle.session_core.specs.Told.{IsTold, IsToldFor, AreTold, layout}
 use Rattle.session_core.specs.Wire.{client_limit}
 use Rattle.session_core.proofs.Givens.{has_hello}
+use Rattle.session_core.proofs.Meanings.{rose_some}
 use Rattle.session_core.proofs.Owing.{any_found, sources_distinct}
 use Rattle.session_core.proofs.Shown.{owes_what_differs, will_show, desk_sized}
 use Rattle.session_core.proofs.Sources.{source_where}
@@ -106,9 +109,34 @@ calm_settled connection tells lines desk clients k is paints told known calm wai
     go None here calm = absurd calm.attached
     go (Some c) here calm = settled_means tells lines desk c (connection k) is paints (told k c here) (known k c here) calm waited
 
-pub rounds_mean : {A : Type 0} (lines : List Paint) (desk : List Window) (r : ConnectionRecord) (rounds : Result A End) → OnOk rounds (IsSettled lines desk r) → IfErr rounds (λ e. EndMeans lines desk e r) → EndMeans lines desk (rounds_end rounds) r
-rounds_mean lines desk r (Ok done) settled means = settled
-rounds_mean lines desk r (Err e) settled means = means
+-- what an end of rounds means of the whole connection
+end_rounds : (lines : List Paint) (desk : List Window) (was r : ConnectionRecord) (e : End) → RoundsMean lines was e r → EndMeans lines desk e r
+end_rounds lines desk was r E.Settled means = absurd means
+end_rounds lines desk was r E.Unbuilt (inl broken) = inl broken
+end_rounds lines desk was r E.Unbuilt (inr (rose, unheard)) = inr (rose_some was.waits r.waits rose, unheard)
+end_rounds lines desk was r E.Short means = tt
+end_rounds lines desk was r E.Unended means = absurd means
+
+pub rounds_mean : {A : Type 0} (lines : List Paint) (desk : List Window) (was r : ConnectionRecord) (rounds : Result A End) → OnOk rounds (IsSettled lines desk r) → IfErr rounds (λ e. RoundsMean lines was e r)
+    → EndMeans lines desk (rounds_end rounds) r
+rounds_mean lines desk was r (Ok done) settled means = settled
+rounds_mean lines desk was r (Err e) settled means = end_rounds lines desk was r e means
+
+-- and of what settling did to it
+settling_end : (lines : List Paint) (was r : ConnectionRecord) (e : End) → RoundsMean lines was e r → SettlingMeans lines was e r
+settling_end lines was r E.Settled means = absurd means
+settling_end lines was r E.Unbuilt means = means
+settling_end lines was r E.Short means = tt
+settling_end lines was r E.Unended means = absurd means
+
+pub settling_rounds : {A : Type 0} (lines : List Paint) (was r : ConnectionRecord) (rounds : Result A End) → OnOk rounds (Rose was.waits r.waits) → IfErr rounds (λ e. RoundsMean lines was e r) → SettlingMeans lines was (rounds_end rounds) r
+settling_rounds lines was r (Ok done) waited means = waited
+settling_rounds lines was r (Err e) waited means = settling_end lines was r e means
+
+-- what is known is the same
+pub since_as : (lines lines' : List Paint) (was r r' : ConnectionRecord) (e : End) → lines' ≡ lines → r' ≡ r → SettlingMeans lines was e r → SettlingMeans lines' was e r'
+since_as lines lines' was r r' e same stays means =
+    subst (λ (ls : List Paint). SettlingMeans ls was e r') (sym same) (subst (SettlingMeans lines was e) (sym stays) means)
 
 pub ok_both : {A E : Type 0} (r : Result A E) {P Q R : Type 0} → (P → Q → R) → OnOk r P → OnOk r Q → OnOk r R
 ok_both (Ok a) f p q = f p q
@@ -128,9 +156,9 @@ calm_mapped connection desk clients k is told calm = λ c sent wid x y s here at
     calm_same desk c sent wid x y s is kept calm_here.attached (calm_here.sent c refl) calm_here.clean source mapped differs
 
 -- rounds that end `Settled` went well
-pub rounds_well : {A : Type 0} (rounds : Result A End) {P : Type 0} → IfErr rounds (λ e. e ≢ Settled) → rounds_end rounds ≡ Settled → OnOk rounds P → P
-rounds_well (Ok done) unsettled is on = on
-rounds_well (Err e) unsettled is on = absurd (unsettled is)
+pub rounds_well : {A : Type 0} (lines : List Paint) (was r : ConnectionRecord) (rounds : Result A End) {P : Type 0} → IfErr rounds (λ e. RoundsMean lines was e r) → rounds_end rounds ≡ Settled → OnOk rounds P → P
+rounds_well lines was r (Ok done) means is on = on
+rounds_well lines was r (Err e) means is on = absurd (subst (λ (d : End). RoundsMean lines was d r) is means)
 
 pub on_ok : {A E : Type 0} (r : Result A E) {P : Type 0} → P → OnOk r P
 on_ok (Ok a) p = p

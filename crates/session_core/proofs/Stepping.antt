@@ -1,6 +1,6 @@
 -- What a read, a capture or a write leaves of an open connection, for settling.
 use Rattle.std.proofs.Common.{◌≡◌, ◌⊎◌, inl, inr, ℕ, zero, suc, ◌-◌, ◌<◌, ◌≤◌, Bool, true, false, List, [], ◌∷◌, ◌++◌, length, take, Option, Some, None, refl, ap, ◌∙◌, sym, subst, arith}
-use Rattle.std.specs.Prelude.{IsSome, IsSomeAnd, MatchOption, is_some, replicate}
+use Rattle.std.specs.Prelude.{IfErr, IsSome, IsSomeAnd, MatchOption, Result, Ok, Err, is_some, replicate}
 use Rattle.std.proofs.lemmas.List.{length-append}
 use Rattle.xp_base.specs.Counts.{Rose, RoseOnlyIf, count_sum}
 use Rattle.xp_base.specs.Told.{told_append, told_length}
@@ -22,7 +22,7 @@ use Rattle.session_core.specs.declared.answers.Sent.{Sent}
 use Rattle.session_core.specs.declared.answers.Sent.TheVariants as S
 use Rattle.session_core.specs.declared.ends.End.{End}
 use Rattle.session_core.specs.declared.ends.End.TheVariants as E
-use Rattle.session_core.specs.Causes.{HasWaited, ReadsStay, ReachesFlood, IsUnbuiltFor, GaveUnbuilt, GaveNoHello}
+use Rattle.session_core.specs.Causes.{BreaksOff, DropMeans, GaveNoHello, GaveUnbuilt, HasWaited, ReachesFlood, ReadsStay, RoundsMean}
 use Rattle.session_core.specs.Clients.{ClientSeen, plain_clients}
 use Rattle.session_core.specs.Shown.{IsAttached}
 use Rattle.session_core.specs.Given.{TellsAll, IsGivenFor, AreKnown}
@@ -96,12 +96,12 @@ past_more lines c budget n (Some given) given' bytes paints is size past near kn
     absurd (omega (arith, small, near, past, size, length-append given bytes)))
 
 pub receives_past : {B : Type 0} (connection : B → ℕ → ConnectionRecord) (tells : Bool) (k n budget : ℕ) (old new : Seen B) → IsSome (open_client old.clients k) → Receives connection k old (R.Took n) new → budget < n
-    → ReachesFlood budget (connection old.bay k).given → ArePaints new.lines → AreKnown tells (connection new.bay) new.lines new.desk new.clients → IsUnbuiltFor new.lines (connection new.bay k)
+    → ReachesFlood budget (connection old.bay k).given → ArePaints new.lines → AreKnown tells (connection new.bay) new.lines new.desk new.clients → BreaksOff new.lines (connection new.bay k)
 receives_past connection tells k n budget old new some receives past near paints known =
     let one = receives_open connection k old new (R.Took n) some receives in
     let reads = one.2.1 in
     let here = now_open old new k one.0 one.2.0 one.1 one.2.2 in
-    inr (inr (inr (inl (past_more new.lines one.2.0 budget n (connection old.bay k).given (connection new.bay k).given reads.1.0 paints (ap (λ (r : ConnectionRecord). r.given) reads.1.5) reads.1.1 past near (known k one.2.0 here).given))))
+    inr (inr (inr (past_more new.lines one.2.0 budget n (connection old.bay k).given (connection new.bay k).given reads.1.0 paints (ap (λ (r : ConnectionRecord). r.given) reads.1.5) reads.1.1 past near (known k one.2.0 here).given)))
 
 -- a capture for an open connection
 pub captures_open : {B : Type 0} (k wid : ℕ) (old new : Seen B) (answer : Captured) → IsSome (open_client old.clients k) → Captures k wid old answer new → IsSome (open_client new.clients k)
@@ -280,13 +280,26 @@ no_hello_where : (lines : List Paint) (c : ClientSeen) (given : Option (List ℕ
 no_hello_where lines c None is off = tt
 no_hello_where lines c (Some given) is off = no_hello lines c given is off
 
-pub ungreeted_means : (connection : ℕ → ConnectionRecord) (tells : Bool) (lines : List Paint) (desk : List Window) (clients : List (Option ClientSeen)) (k : ℕ) → IsSome (open_client (plain_clients clients) k) → (IsAttached clients k → ⊥)
-    → AreKnown tells connection lines desk (plain_clients clients) → HasWaited (connection k) → IsUnbuiltFor lines (connection k)
-ungreeted_means connection tells lines desk clients k some off known waited =
+pub ungreeted_unheard : (connection : ℕ → ConnectionRecord) (tells : Bool) (lines : List Paint) (desk : List Window) (clients : List (Option ClientSeen)) (k : ℕ) → IsSome (open_client (plain_clients clients) k) → (IsAttached clients k → ⊥)
+    → AreKnown tells connection lines desk (plain_clients clients) → GaveNoHello (connection k).given
+ungreeted_unheard connection tells lines desk clients k some off known =
     let found = the_client (open_client (plain_clients clients) k) some in
     let no : found.0.greeted ≡ false = not_greeted found.0 found.1 found.0.greeted refl in
-    inr (inr (inr (inr (waited.1, no_hello_where lines found.0 (connection k).given (known k found.0 found.1).given no))))
+    no_hello_where lines found.0 (connection k).given (known k found.0 found.1).given no
   where
     not_greeted : (c : ClientSeen) → open_client (plain_clients clients) k ≡ Some c → (b : Bool) → c.greeted ≡ b → c.greeted ≡ false
     not_greeted c here false is = is
     not_greeted c here true is = absurd (off (plain_attached clients k (subst (λ (o : Option ClientSeen). IsSomeAnd o (λ (d : ClientSeen). d.greeted ≡ true)) (sym here) is)))
+
+-- an end that a read or a write gave in rounds
+pub dropped_rounds : (lines : List Paint) (was now : ConnectionRecord) (e : End) → DropMeans lines e now → RoundsMean lines was e now
+dropped_rounds lines was now E.Settled means = absurd means
+dropped_rounds lines was now E.Unbuilt means = inl means
+dropped_rounds lines was now E.Short means = tt
+dropped_rounds lines was now E.Unended means = absurd means
+
+-- rounds in which a read had to wait for a client that has not said its whole hello
+pub unheard_rounds : {A : Type 0} (lines : List Paint) (was now : ConnectionRecord) (rounds : Result A End) → IfErr rounds (λ e. e ≡ E.Unbuilt) → Rose was.waits now.waits → IfErr rounds (λ e. GaveNoHello now.given)
+    → IfErr rounds (λ e. RoundsMean lines was e now)
+unheard_rounds lines was now (Ok done) unbuilt rose unheard = tt
+unheard_rounds lines was now (Err e) unbuilt rose unheard = subst (λ (d : End). RoundsMean lines was d now) (sym unbuilt) (inr (rose, unheard))

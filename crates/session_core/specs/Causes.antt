@@ -1,11 +1,11 @@
 -- What each end of a connection means, read from what the provider knows of it.
 use Rattle.std.specs.Prelude.{ℕ, ◌+◌, ◌≤◌, ◌≡◌, ◌≢◌, ◌⊎◌, Bool, true, false, Option, Some, None, List, length, slice_get}
-use Rattle.link_bay.specs.Connections.{ConnectionRecord, OthersStay}
+use Rattle.xp_base.specs.Counts.{Rose}
+use Rattle.link_bay.specs.Connections.{ConnectionRecord}
 use Rattle.window_model.specs.Desktop.{Window}
 use Rattle.paint_script.specs.declared.paint.Paint.{Paint}
 use Rattle.session_core.specs.declared.ends.End.{End}
 use Rattle.session_core.specs.declared.ends.End.TheVariants as end
-use Rattle.session_core.specs.Ends.{EndsOne}
 use Rattle.session_core.specs.Given.{IsBuilt, HasHello, TellsAll}
 use Rattle.session_core.specs.Mapped.{IsMapped}
 use Rattle.session_core.specs.Shown.{shows, Differs}
@@ -14,8 +14,8 @@ use Rattle.session_core.specs.Told.{layout}
 use Rattle.session_core.specs.Wire.{client_limit}
 use Rattle.packet_kinds.specs.Written.{Show}
 
--- The bytes sent are whole packets without a fault, and the client shows exactly the desktop: its windows in their order, at their places, of their sizes, and in a window that it has
--- mapped no point has another number.
+-- The bytes sent are whole packets without a fault, and the client shows exactly the desktop: its windows in their order, at their
+-- places, of their sizes, and in a window that it has mapped no point has another number.
 pub record ShowsExactly (desk : List Window) (r : ConnectionRecord) (sent : List ℕ) : Type 0 where
   pub clean : Show client_limit sent (shows sent)
   pub laid : layout (shows sent) ≡ layout desk
@@ -39,10 +39,18 @@ abbrev pub GaveNoHello : Option (List ℕ) → Type 0
 GaveNoHello None = Unit {0}
 GaveNoHello (Some given) = HasHello given → ⊥
 
--- the causes of the end `Unbuilt`: a read or a write failed; a read met the end; 1,000 writes in a row took nothing; the client
--- said what is not built; or a read had to wait for a client that has not said its whole hello
+-- the causes for which a connection breaks off: a read or a write failed; a read met the end; 1,000 writes in a row took nothing;
+-- or the client said what is not built
+abbrev pub BreaksOff : List Paint → ConnectionRecord → Type 0
+BreaksOff lines r = (r.faults ≢ 0) ⊎ (r.ends ≢ 0) ⊎ ((1000 ≤ r.dry) × (1000 ≤ r.drought)) ⊎ GaveUnbuilt lines r.given
+
+-- the causes of the end `Unbuilt`: those, or a read had to wait for a client that has not said its whole hello
 abbrev pub IsUnbuiltFor : List Paint → ConnectionRecord → Type 0
-IsUnbuiltFor lines r = (r.faults ≢ 0) ⊎ (r.ends ≢ 0) ⊎ ((1000 ≤ r.dry) × (1000 ≤ r.drought)) ⊎ GaveUnbuilt lines r.given ⊎ ((r.waits ≢ 0) × GaveNoHello r.given)
+IsUnbuiltFor lines r = BreaksOff lines r ⊎ ((r.waits ≢ 0) × GaveNoHello r.given)
+
+-- the same, where only the reads after this time count as having had to wait
+abbrev pub IsUnbuiltSince : List Paint → ConnectionRecord → ConnectionRecord → Type 0
+IsUnbuiltSince lines was r = BreaksOff lines r ⊎ (Rose was.waits r.waits × GaveNoHello r.given)
 
 -- a write leaves what was read and how often a read had to wait
 abbrev pub ReadsStay : ConnectionRecord → ConnectionRecord → Type 0
@@ -64,6 +72,27 @@ EndMeans lines desk end.Unbuilt r = IsUnbuiltFor lines r
 EndMeans lines desk end.Short r = Unit {0}
 EndMeans lines desk end.Unended r = Unit {0}
 
+-- what an end means that one read or one write gives
+abbrev pub DropMeans : List Paint → End → ConnectionRecord → Type 0
+DropMeans lines end.Settled r = ⊥
+DropMeans lines end.Unbuilt r = BreaksOff lines r
+DropMeans lines end.Short r = Unit {0}
+DropMeans lines end.Unended r = ⊥
+
+-- what an end means that rounds of reads, captures and writes give
+abbrev pub RoundsMean : List Paint → ConnectionRecord → End → ConnectionRecord → Type 0
+RoundsMean lines was end.Settled r = ⊥
+RoundsMean lines was end.Unbuilt r = IsUnbuiltSince lines was r
+RoundsMean lines was end.Short r = Unit {0}
+RoundsMean lines was end.Unended r = ⊥
+
+-- what an end means that settling a connection gives: of its reads one had to wait, where it is `Settled`
+abbrev pub SettlingMeans : List Paint → ConnectionRecord → End → ConnectionRecord → Type 0
+SettlingMeans lines was end.Settled r = Rose was.waits r.waits
+SettlingMeans lines was end.Unbuilt r = IsUnbuiltSince lines was r
+SettlingMeans lines was end.Short r = Unit {0}
+SettlingMeans lines was end.Unended r = ⊥
+
 -- an end with its cause, and a provider that tells its bytes tells those of the connection
 pub record HasCause (tells : Bool) (lines : List Paint) (desk : List Window) (e : End) (r : ConnectionRecord) : Type 0 where
   pub means : EndMeans lines desk e r
@@ -80,9 +109,3 @@ EndsHaveCauses tells lines desk connection old new = (k : ℕ) (e : End) → Has
 -- what is known of a connection that had ended stays
 abbrev pub EndedStay : (ℕ → ConnectionRecord) → (ℕ → ConnectionRecord) → List End → Type 0
 EndedStay was now ends = (k : ℕ) (e : End) → slice_get ends k ≡ Some e → is_unended e ≡ false → now k ≡ was k
-
--- one connection that was open has ended so, rightly, and what is known of the others stays
-pub record EndsOneFor (tells : Bool) (lines : List Paint) (desk : List Window) (was now : ℕ → ConnectionRecord) (old new : List End) (e : End) : Type 0 where
-  pub ended : EndsOne old e new
-  pub right : HasCause tells lines desk e (now ended.number)
-  pub others : OthersStay was now ended.number

@@ -1,7 +1,6 @@
 -- What settling does to a session: whoever comes is accepted, and for one connection after another reads, captures and writes
 -- are made, and then it ends. So nothing is drawn that a capture did not make.
 use Rattle.std.specs.Prelude.{ℕ, ◌<◌, ◌≤◌, ◌≡◌, ◌≢◌, ◌⊎◌, Bool, true, false, IsSome, Option, Some, None, List, [], ◌∷◌}
-use Rattle.xp_base.specs.Counts.{Rose}
 use Rattle.link_bay.specs.Connections.{ConnectionRecord, OthersStay, AllStay}
 use Rattle.link_bay.specs.Provider.{ProviderRecord}
 use Rattle.window_model.specs.Desktop.{Window}
@@ -12,7 +11,7 @@ use Rattle.session_core.specs.declared.answers.Sent.{Sent}
 use Rattle.session_core.specs.declared.ends.End.{End}
 use Rattle.session_core.specs.declared.ends.End.TheVariants.{Settled}
 use Rattle.session_core.specs.declared.source.Source.{Source}
-use Rattle.session_core.specs.Causes.{EndsHaveCauses, EndedStay}
+use Rattle.session_core.specs.Causes.{EndsHaveCauses, EndedStay, SettlingMeans}
 use Rattle.session_core.specs.Clients.{ClientSeen}
 use Rattle.session_core.specs.Delivery.{find_source}
 use Rattle.session_core.specs.Shown.{shows, Differs}
@@ -57,14 +56,14 @@ pub record Closes {B : Type 0} (provider : B → ProviderRecord) (connection : B
 abbrev pub EndsIn : {B : Type 0} → (B → ProviderRecord) → (B → ℕ → ConnectionRecord) → ℕ → End → Seen B → Seen B → Type 0
 EndsIn provider connection k ended old new = ((open_client new.clients k ≡ None) × (ended ≢ Settled) × (new ≡ old)) ⊎ Closes provider connection k ended old new
 
--- acts are made for the open connection of least number until it ends; `Settled` only where a read had to wait in them
+-- acts are made for the open connection of least number until it ends, as their own reads and waits have it
 pub record SettlesOne {B : Type 0} (provider : B → ProviderRecord) (connection : B → ℕ → ConnectionRecord) (k : ℕ) (old new : Seen B) : Type 0 where
   pub least : (d : ℕ) → d < k → open_client old.clients d ≡ None
   pub ended : End
   pub last : Seen B
   pub acts : Acts provider connection k old last
   pub ends : EndsIn provider connection k ended last new
-  pub waited : ended ≡ Settled → Rose (connection old.bay k).waits (connection new.bay k).waits
+  pub means : SettlingMeans old.lines (connection old.bay k) ended (connection new.bay k)
 
 -- one step of settling: somebody is accepted or nobody, or a connection is settled
 abbrev pub SettlingStep : {B : Type 0} → (B → ProviderRecord) → (B → ℕ → ConnectionRecord) → Bool → Seen B → Seen B → Type 0

@@ -1,4 +1,5 @@
 // How connections end.
+ghost use Rattle.std.specs.Prelude.{◌≡◌};
 
 /// How a connection ended.
 #[derive(Clone, Copy, Debug, PartialEq, Eq)]
@@ -19,4 +20,17 @@ pub enum End {
 pub(crate) enum Trouble {
     Unbuilt,
     NoMemory,
+}
+
+impl Trouble {
+    /// The end that it comes to.
+    pub(crate) fn end(self) -> End
+        ensures unbuilt { self ≡ Trouble.Unbuilt → result ≡ End.Unbuilt }
+        ensures short { self ≡ Trouble.NoMemory → result ≡ End.Short }
+    {
+        match self {
+            Trouble::Unbuilt => End::Unbuilt,
+            Trouble::NoMemory => End::Short,
+        }
+    }
 }

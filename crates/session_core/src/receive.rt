@@ -1,10 +1,11 @@
 // Reads.
-ghost use Rattle.std.specs.Prelude.{◌≡◌, ◌≢◌, ◌≤◌, ◌<◌, ◌↔◌, ℕ, false, IsTrue, IsSome, None, IfSome, OnOk, Err, length, slice_set};
+ghost use Rattle.std.specs.Prelude.{◌≡◌, ◌≤◌, ◌<◌, ◌↔◌, ℕ, false, IsTrue, IsSome, None, IfSome, OnOk, Err, length, slice_set};
 ghost use Rattle.std.specs.Option.{option_map, is_some};
 ghost use Rattle.link_bay.specs.Connections.{OthersStay, AllStay};
 ghost use Rattle.session_core.specs.State.{open_client, is_unended};
 ghost use Rattle.session_core.specs.Clients.{plain};
 ghost use Rattle.session_core.specs.Hearing.{HearsSlot, IsUnbuilt};
+ghost use Rattle.session_core.specs.Reading.{ending_answer as answer_of};
 
 use crate::answers::Received;
 use crate::client::Client;
@@ -22,7 +23,8 @@ const READ_LIMIT: u32 = 4096;
 impl<B: Bay + Drop> Session<B> {
     ghost use Rattle.session_core.specs.State.{KeepsWindows, ends_with};
     ghost use Rattle.session_core.specs.Steps.{with_end, Receives, receive_ends};
-    ghost use Rattle.session_core.specs.Causes.{EndMeans};
+    ghost use Rattle.session_core.specs.Causes.{DropMeans};
+    ghost use Rattle.session_core.specs.Reading.{ending_answer};
 
     /// Reads once from the connection, and handles each packet that is then whole.
     pub fn receive(&mut self, c: Conn) -> Received
@@ -30,8 +32,7 @@ impl<B: Bay + Drop> Session<B> {
         ensures windows { KeepsWindows self.old self.new }
         ensures ends { self.new.ends ≡ ends_with (receive_ends result) c.0 self.old.ends }
         ensures ended { IfSome (receive_ends result) (λ e. is_unended e ≡ false) }
-        ensures unsettled { IfSome (receive_ends result) (λ e. e ≢ End.Settled) }
-        ensures means { IfSome (receive_ends result) (λ e. EndMeans self.new.lines self.new.desk e (B.connection self.new.bay c.0)) }
+        ensures means { IfSome (receive_ends result) (λ e. DropMeans self.new.lines e (B.connection self.new.bay c.0)) }
         ensures some { (n : ℕ) → result ≡ Received.Took n → 1 ≤ n }
         ensures others { OthersStay (B.connection self.old.bay) (B.connection self.new.bay) c.0 }
         ensures provider { B.provider self.new.bay ≡ B.provider self.old.bay }
@@ -41,58 +42,38 @@ impl<B: Bay + Drop> Session<B> {
             return Received::Closed;
         }
         let _count = self.desk.len();
-        let _lines = self.paints.len();
         let mut bytes = Vec::new(self.alloc);
         match self.bay.read(c, &mut bytes, READ_LIMIT) {
             Gave::Bytes(count) => {
                 let slot = &mut self.clients[k];
-                let heard = hear_slot(
-                    slot,
-                    self.alloc,
-                    bytes.as_slice(),
-                    self.paints.as_slice(),
-                    &self.desk,
-                );
-                match heard {
+                let lines = self.paints.as_slice();
+                match hear_slot(slot, self.alloc, bytes.as_slice(), lines, &self.desk) {
                     Ok(()) => Received::Took(count),
-                    Err(trouble) => match trouble {
-                        Trouble::Unbuilt => {
-                            end_client(
-                                &mut self.clients,
-                                &mut self.ends,
-                                &mut self.bay,
-                                c,
-                                End::Unbuilt,
-                            );
-                            Received::Ended(End::Unbuilt)
-                        }
-                        Trouble::NoMemory => {
-                            end_client(
-                                &mut self.clients,
-                                &mut self.ends,
-                                &mut self.bay,
-                                c,
-                                End::Short,
-                            );
-                            Received::NoMemory
-                        }
-                    },
+                    Err(trouble) => {
+                        let end = trouble.end();
+                        end_client(&mut self.clients, &mut self.ends, &mut self.bay, c, end);
+                        ended(end)
+                    }
                 }
             }
             Gave::Again => Received::Again,
-            Gave::End => {
-                self.drop_client(c, End::Unbuilt);
-                Received::Ended(End::Unbuilt)
-            }
-            Gave::Failed => {
-                self.drop_client(c, End::Unbuilt);
-                Received::Ended(End::Unbuilt)
-            }
-            Gave::NoMemory => {
-                self.drop_client(c, End::Short);
-                Received::NoMemory
-            }
+            Gave::End => self.end_reading(c, End::Unbuilt),
+            Gave::Failed => self.end_reading(c, End::Unbuilt),
+            Gave::NoMemory => self.end_reading(c, End::Short),
         }
+    }
+
+    /// Ends the connection so, and answers that.
+    fn end_reading(&mut self, c: Conn, end: End) -> Received
+        requires within { c.0 < length self.old.clients }
+        requires ended { is_unended end ≡ false }
+        ensures answer { result ≡ ending_answer end }
+        ensures session { self.new ≡ with_end c.0 end self.new.bay self.old }
+        ensures connections { AllStay (B.connection self.old.bay) (B.connection self.new.bay) }
+        ensures provider { B.provider self.new.bay ≡ B.provider self.old.bay }
+    {
+        self.drop_client(c, end);
+        ended(end)
     }
 
     /// Ends the connection so: what is kept of it is dropped, and it is closed.
@@ -104,6 +85,16 @@ impl<B: Bay + Drop> Session<B> {
         ensures provider { B.provider self.new.bay ≡ B.provider self.old.bay }
     {
         end_client(&mut self.clients, &mut self.ends, &mut self.bay, c, end);
+    }
+}
+
+/// How a read answers that it ended the connection so.
+fn ended(end: End) -> Received
+    ensures { result ≡ answer_of end }
+{
+    match end {
+        End::Short => Received::NoMemory,
+        _ => Received::Ended(end),
     }
 }
 

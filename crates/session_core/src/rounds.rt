@@ -1,5 +1,5 @@
 // What settles one connection: rounds of reading, capturing and writing.
-ghost use Rattle.std.specs.Prelude.{◌≡◌, ◌≢◌, ◌≤◌, ◌↔◌, IsSome, IsTrue, IfOk, IfErr, OnOk, Ok, false};
+ghost use Rattle.std.specs.Prelude.{◌≡◌, ◌≤◌, ◌↔◌, IsSome, IsTrue, IfOk, IfErr, OnOk, Ok, false};
 ghost use Rattle.xp_base.specs.Counts.{Rose};
 ghost use Rattle.link_bay.specs.Connections.{OthersStay};
 ghost use Rattle.session_core.specs.Shown.{IsAttached as IsAttachedIn};
@@ -25,7 +25,7 @@ impl<B: Bay + Drop> Session<B> {
     ghost use Rattle.session_core.specs.Ends.{LeavesEnds, waiting_at, WritesLess};
     ghost use Rattle.session_core.specs.Shown.{IsAttached};
     ghost use Rattle.session_core.specs.Calm.{AreClean, IsCalm, WaitsForNothing, sources_in};
-    ghost use Rattle.session_core.specs.Causes.{EndMeans, HasWaited, ReadsStay, ReachesFlood};
+    ghost use Rattle.session_core.specs.Causes.{DropMeans, GaveNoHello, HasWaited, ReadsStay, ReachesFlood, RoundsMean};
     ghost use Rattle.session_core.specs.Settling.{Acts};
 
     /// Reads, then captures, writes and reads again, until there was nothing to read after all was written.
@@ -35,8 +35,7 @@ impl<B: Bay + Drop> Session<B> {
         ensures calm { OnOk result (IsCalm self.new.desk (open_client self.new.clients c.0)) }
         ensures heard { OnOk result (HasWaited (B.connection self.new.bay c.0)) }
         ensures waited { OnOk result (Rose (B.connection self.old.bay c.0).waits (B.connection self.new.bay c.0).waits) }
-        ensures unsettled { IfErr result (λ e. e ≢ End.Settled) }
-        ensures means { IfErr result (λ e. EndMeans self.new.lines self.new.desk e (B.connection self.new.bay c.0)) }
+        ensures means { IfErr result (λ e. RoundsMean self.new.lines (B.connection self.old.bay c.0) e (B.connection self.new.bay c.0)) }
         ensures ends { LeavesEnds c.0 self.old.ends result self.new.ends }
         ensures acts { Acts B.provider B.connection c.0 self.old self.new }
         ensures others { OthersStay (B.connection self.old.bay) (B.connection self.new.bay) c.0 }
@@ -66,8 +65,7 @@ impl<B: Bay + Drop> Session<B> {
         ensures quiet { IfOk result (λ left. left ≡ budget → self.new.clients ≡ self.old.clients) }
         ensures heard { OnOk result (HasWaited (B.connection self.new.bay c.0)) }
         ensures waited { OnOk result (Rose (B.connection self.old.bay c.0).waits (B.connection self.new.bay c.0).waits) }
-        ensures unsettled { IfErr result (λ e. e ≢ End.Settled) }
-        ensures means { IfErr result (λ e. EndMeans self.new.lines self.new.desk e (B.connection self.new.bay c.0)) }
+        ensures means { IfErr result (λ e. DropMeans self.new.lines e (B.connection self.new.bay c.0)) }
         ensures acts { Acts B.provider B.connection c.0 self.old self.new }
         ensures others { OthersStay (B.connection self.old.bay) (B.connection self.new.bay) c.0 }
         ensures provider { B.provider self.new.bay ≡ B.provider self.old.bay }
@@ -122,8 +120,7 @@ impl<B: Bay + Drop> Session<B> {
         ensures idle { OnOk result (WaitsForNothing (open_client self.new.clients c.0)) }
         ensures sources { OnOk result (sources_in (open_client self.new.clients c.0) ≡ sources_in (open_client self.old.clients c.0)) }
         ensures reads { ReadsStay (B.connection self.old.bay c.0) (B.connection self.new.bay c.0) }
-        ensures unsettled { IfErr result (λ e. e ≢ End.Settled) }
-        ensures means { IfErr result (λ e. EndMeans self.new.lines self.new.desk e (B.connection self.new.bay c.0)) }
+        ensures means { IfErr result (λ e. DropMeans self.new.lines e (B.connection self.new.bay c.0)) }
         ensures ends { LeavesEnds c.0 self.old.ends result self.new.ends }
         ensures acts { Acts B.provider B.connection c.0 self.old self.new }
         ensures others { OthersStay (B.connection self.old.bay) (B.connection self.new.bay) c.0 }
@@ -147,8 +144,7 @@ impl<B: Bay + Drop> Session<B> {
         ensures idle { result ≡ Ok false → WaitsForNothing (open_client self.new.clients c.0) }
         ensures sources { OnOk result (sources_in (open_client self.new.clients c.0) ≡ sources_in (open_client self.old.clients c.0)) }
         ensures reads { ReadsStay (B.connection self.old.bay c.0) (B.connection self.new.bay c.0) }
-        ensures unsettled { IfErr result (λ e. e ≢ End.Settled) }
-        ensures means { IfErr result (λ e. EndMeans self.new.lines self.new.desk e (B.connection self.new.bay c.0)) }
+        ensures means { IfErr result (λ e. DropMeans self.new.lines e (B.connection self.new.bay c.0)) }
         ensures acts { Acts B.provider B.connection c.0 self.old self.new }
         ensures others { OthersStay (B.connection self.old.bay) (B.connection self.new.bay) c.0 }
         ensures provider { B.provider self.new.bay ≡ B.provider self.old.bay }
@@ -169,9 +165,8 @@ impl<B: Bay + Drop> Session<B> {
     /// A client that has not said a whole hello is not settled.
     fn check_greeted(&self, c: Conn) -> Result<(), End>
         requires open { IsSome (open_client self.now.clients c.0) }
-        requires heard { HasWaited (B.connection self.now.bay c.0) }
         ensures unbuilt { IfErr result (λ end. end ≡ End.Unbuilt) }
-        ensures means { IfErr result (λ e. EndMeans self.now.lines self.now.desk e (B.connection self.now.bay c.0)) }
+        ensures unheard { IfErr result (λ e. GaveNoHello (B.connection self.now.bay c.0).given) }
         ensures greeted { OnOk result (IsAttached self.now.clients c.0) }
     {
         let _ = self.is_painted();

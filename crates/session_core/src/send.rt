@@ -1,5 +1,5 @@
 // Writes.
-ghost use Rattle.std.specs.Prelude.{◌≡◌, ◌≢◌, ◌≤◌, ◌<◌, ◌+◌, ◌↔◌, length, IfOk, IfErr, OnErr, IfSome, false};
+ghost use Rattle.std.specs.Prelude.{◌≡◌, ◌≤◌, ◌<◌, ◌+◌, ◌↔◌, length, IfOk, IfErr, OnErr, IfSome, false};
 ghost use Rattle.std.specs.Option.{option_map, is_some};
 ghost use Rattle.link_bay.specs.Connections.{OthersStay};
 ghost use Rattle.session_core.specs.Clients.{plain};
@@ -20,7 +20,7 @@ impl<B: Bay + Drop> Session<B> {
     ghost use Rattle.session_core.specs.State.{KeepsWindows, ends_with, is_unended};
     ghost use Rattle.session_core.specs.Ends.{waiting_at, SendsLess};
     ghost use Rattle.session_core.specs.Steps.{Sends, send_ends};
-    ghost use Rattle.session_core.specs.Causes.{EndMeans};
+    ghost use Rattle.session_core.specs.Causes.{DropMeans};
 
     /// Writes at most `max` bytes of what is left of the first packet that waits.
     pub fn send(&mut self, c: Conn, max: u32) -> Sent
@@ -29,8 +29,7 @@ impl<B: Bay + Drop> Session<B> {
         ensures windows { KeepsWindows self.old self.new }
         ensures ends { self.new.ends ≡ ends_with (send_ends result) c.0 self.old.ends }
         ensures ended { IfSome (send_ends result) (λ e. is_unended e ≡ false) }
-        ensures unsettled { IfSome (send_ends result) (λ e. e ≢ End.Settled) }
-        ensures means { IfSome (send_ends result) (λ e. EndMeans self.new.lines self.new.desk e (B.connection self.new.bay c.0)) }
+        ensures means { IfSome (send_ends result) (λ e. DropMeans self.new.lines e (B.connection self.new.bay c.0)) }
         ensures waiting { SendsLess result (waiting_at self.old.clients c.0) (waiting_at self.new.clients c.0) }
         ensures others { OthersStay (B.connection self.old.bay) (B.connection self.new.bay) c.0 }
         ensures provider { B.provider self.new.bay ≡ B.provider self.old.bay }

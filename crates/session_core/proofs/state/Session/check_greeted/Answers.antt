@@ -2,12 +2,11 @@ use Rattle.std.proofs.Common.{List, sym, subst}
 use Rattle.std.specs.Prelude.{Option}
 use Rattle.session_core.specs.Clients.{ClientSeen}
 use Rattle.session_core.specs.Shown.{IsAttached}
-use Rattle.session_core.proofs.Stepping.{ungreeted_means}
+use Rattle.session_core.proofs.Stepping.{ungreeted_unheard}
 use Rattle.session_core.proofs.state.Session.check_greeted.Goals as goal
 
-pub returns-clause-means : goal.returns-clause-means
-returns-clause-means g c =
+pub returns-clause-unheard : goal.returns-clause-unheard
+returns-clause-unheard g c =
     let off : IsAttached c.self.inside.clients.items c.args.c.0 → ⊥ =
     λ on. absurd (cc (c.if-is_greeted.ensures.1 (subst (λ (xs : List (Option ClientSeen)). IsAttached xs c.args.c.0) (sym c.deref.ensures.value) on))) in
-    rw (← c.self.view_is) (ungreeted_means (g.B.Bay.connection c.self.inside.bay) g.B.Bay.tells c.self.inside.paints c.self.inside.desk c.self.inside.clients.items c.args.c.0 (rw (← c.self.view_is) at c.requires.open) off c.self.invariant.known
-    (rw (← c.self.view_is) at c.requires.heard))
+    rw (← c.self.view_is) (ungreeted_unheard (g.B.Bay.connection c.self.inside.bay) g.B.Bay.tells c.self.inside.paints c.self.inside.desk c.self.inside.clients.items c.args.c.0 (rw (← c.self.view_is) at c.requires.open) off c.self.invariant.known)
