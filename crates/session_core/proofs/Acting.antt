@@ -3,11 +3,12 @@ use Rattle.std.proofs.Common.{◌≡◌, inl, inr, ℕ, ◌≤◌, Bool, List, [
 use Rattle.link_bay.specs.Connections.{ConnectionRecord, OthersStay}
 use Rattle.link_bay.specs.Provider.{ProviderRecord}
 use Rattle.session_core.specs.declared.answers.Received.{Received}
-use Rattle.session_core.specs.declared.answers.Captured.{Captured}
-use Rattle.session_core.specs.declared.answers.Sent.{Sent}
+use Rattle.session_core.specs.declared.answers.Received.TheVariants.{Again}
+use Rattle.client_connection.specs.declared.answers.Captured.{Captured}
+use Rattle.client_connection.specs.declared.answers.Sent.{Sent}
 use Rattle.session_core.specs.State.{Seen}
 use Rattle.session_core.specs.Steps.{Receives, Captures, Sends}
-use Rattle.session_core.specs.Settling.{KeepsOthers, ActsOnce, ActsThrough, Acts, SettlingStep, SettlingThrough, Settling}
+use Rattle.session_core.specs.Settling.{KeepsOthers, ActsOnce, ActsThrough, Acts, EndsWaiting, SettlingStep, SettlingThrough, Settling}
 
 acts_append : {B : Type 0} (provider : B → ProviderRecord) (connection : B → ℕ → ConnectionRecord) (k : ℕ) (first second : List (Seen B)) (old now new : Seen B)
     → ActsThrough provider connection k first old now → ActsThrough provider connection k second now new → ActsThrough provider connection k (first ++ second) old new
@@ -37,6 +38,14 @@ pub acts_send : {B : Type 0} (provider : B → ProviderRecord) (connection : B �
     → provider new.bay ≡ provider now.bay → OthersStay (connection now.bay) (connection new.bay) k → Sends connection k most now answer new → Acts provider connection k old new
 acts_send provider connection k most old now new answer some acts same others sends =
     acts_once provider connection k old now new acts (keeps provider connection k now.bay new.bay same others, inr (inr (most, answer, some, sends)))
+
+-- acts, and then a read that had to wait
+pub acts_read_out : {B : Type 0} (provider : B → ProviderRecord) (connection : B → ℕ → ConnectionRecord) (k : ℕ) (old now new : Seen B) → Acts provider connection k old now
+    → provider new.bay ≡ provider now.bay → OthersStay (connection now.bay) (connection new.bay) k → Receives connection k now Again new → EndsWaiting provider connection k old new
+acts_read_out provider connection k old now new acts same others receives = (now, acts, keeps provider connection k now.bay new.bay same others, receives)
+
+pub acts_waiting : {B : Type 0} (provider : B → ProviderRecord) (connection : B → ℕ → ConnectionRecord) (k : ℕ) (old now new : Seen B) → Acts provider connection k old now → EndsWaiting provider connection k now new → EndsWaiting provider connection k old new
+acts_waiting provider connection k old now new acts waits = (waits.0, acts_on provider connection k old now waits.0 acts waits.1, waits.2, waits.3)
 
 -- no step, one step, and one after the other
 pub settling_none : {B : Type 0} (provider : B → ProviderRecord) (connection : B → ℕ → ConnectionRecord) (tells : Bool) (s : Seen B) → Settling provider connection tells s s

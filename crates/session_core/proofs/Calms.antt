@@ -7,25 +7,25 @@ use Rattle.std.proofs.lemmas.Bool.Decides.{nat_tests}
 use Rattle.std.proofs.lemmas.Option.{slice_get_past, slice_get-get_or, slice_get_cases}
 use Rattle.std.proofs.lemmas.List.Folds.{find_at}
 use Rattle.window_model.specs.Desktop.{Window, find_window, has_window}
-use Rattle.session_core.specs.declared.answers.Captured.{Captured}
-use Rattle.session_core.specs.declared.answers.Captured.TheVariants as C
-use Rattle.session_core.specs.PointSets.{HasNone, whole_set}
-use Rattle.session_core.specs.Capturing.{CapturesWindow}
-use Rattle.session_core.specs.Delivery.{find_source}
+use Rattle.client_connection.specs.declared.answers.Captured.{Captured}
+use Rattle.client_connection.specs.declared.answers.Captured.TheVariants as C
+use Rattle.client_connection.specs.PointSets.{HasNone, whole_set}
+use Rattle.client_connection.specs.Capturing.{CapturesWindow}
+use Rattle.client_connection.specs.Delivery.{find_source}
 use Rattle.link_bay.specs.Connections.{ConnectionRecord}
-use Rattle.session_core.specs.declared.source.Source.{Source}
-use Rattle.session_core.specs.declared.answers.Sent.{Sent}
-use Rattle.session_core.specs.declared.answers.Sent.TheVariants as S
+use Rattle.client_connection.specs.declared.source.Source.{Source}
+use Rattle.client_connection.specs.declared.answers.Sent.{Sent}
+use Rattle.client_connection.specs.declared.answers.Sent.TheVariants as S
 use Rattle.session_core.specs.declared.answers.Received.TheVariants as R
-use Rattle.session_core.specs.declared.ends.End.{End}
-use Rattle.session_core.specs.Clients.{ClientSeen, taken_more, front_size}
+use Rattle.client_connection.specs.declared.ends.End.{End}
+use Rattle.client_connection.specs.Clients.{ClientSeen, taken_more, front_size}
 use Rattle.session_core.specs.State.{Seen, open_client}
-use Rattle.session_core.specs.Sending.{Writes, WriteEnds}
+use Rattle.client_connection.specs.Sending.{Writes, WriteEnds}
 use Rattle.session_core.specs.Reading.{Reads}
 use Rattle.session_core.specs.Steps.{Sends, Receives, Captures, CapturesOne, send_ends, with_client, with_end}
 use Rattle.session_core.specs.Calm.{IsCleanAt, AreClean, sources_in, WaitsForNothing, IsCalm}
-use Rattle.session_core.specs.Shown.{IsAttached}
-use Rattle.session_core.proofs.Sources.{some_same, find_source-set, find_source-at, wid_at}
+use Rattle.session_core.specs.Slots.{IsAttached}
+use Rattle.client_connection.proofs.Sources.{some_same, find_source-set, find_source-at, wid_at}
 use Rattle.session_core.proofs.Lessening.{open_set}
 
 taken_sources : (n : ℕ) (c : ClientSeen) → (taken_more n c).sources ≡ c.sources

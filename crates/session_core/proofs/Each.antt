@@ -4,11 +4,12 @@ use Rattle.std.specs.Option.{option_map}
 use Rattle.std.proofs.lemmas.Bool.{cases_eq}
 use Rattle.std.proofs.lemmas.List.{length-map, map-append}
 use Rattle.link_bay.specs.Connections.{ConnectionRecord, OthersStay, fresh_connection}
-use Rattle.session_core.specs.Clients.{ClientSeen, plain, plain_clients, fresh_client}
+use Rattle.client_connection.specs.Clients.{ClientSeen, plain, fresh_client}
+use Rattle.session_core.specs.Slots.{plain_clients}
 use Rattle.session_core.specs.State.{open_client}
 use Rattle.session_core.proofs.Slots.{plain_clients-set}
 use Rattle.session_core.proofs.Lives.{open_at}
-use Rattle.session_core.proofs.Sources.{some_same}
+use Rattle.client_connection.proofs.Sources.{some_same}
 
 -- something is kept of each connection that is open
 abbrev pub Each : (ClientSeen → ConnectionRecord → Type 0) → (ℕ → ConnectionRecord) → List (Option ClientSeen) → Type 0

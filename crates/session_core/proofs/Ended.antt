@@ -5,8 +5,8 @@ use Rattle.std.proofs.lemmas.Bool.{cases_eq}
 use Rattle.std.proofs.lemmas.List.{length-append, get_or_default}
 use Rattle.std.proofs.lemmas.List.Sums.{sum_by-set, sum_by-append, sum_by-cons}
 use Rattle.std.specs.Prelude.{count_by, is_some, cond, IsSome, Result, Ok, Err}
-use Rattle.session_core.specs.declared.ends.End.{End}
-use Rattle.session_core.specs.declared.ends.End.TheVariants.{Settled, Unended}
+use Rattle.client_connection.specs.declared.ends.End.{End}
+use Rattle.client_connection.specs.declared.ends.End.TheVariants.{Settled, Unended}
 use Rattle.session_core.specs.State.{is_unended, open_count, open_client}
 use Rattle.session_core.specs.Ends.{KeepsEnds, NoMoreShort, EndsOne, AllEnded, LeavesEnds, rounds_end}
 use Rattle.session_core.proofs.Lives.{set_twice}

@@ -7,7 +7,7 @@ use Rattle.window_model.specs.Desktop.{Window}
 use Rattle.paint_script.specs.declared.paint.Paint.{Paint}
 use Rattle.session_core.specs.declared.answers.Accepted.{Accepted}
 use Rattle.session_core.specs.declared.answers.Accepted.TheVariants as A
-use Rattle.session_core.specs.declared.ends.End.{End}
+use Rattle.client_connection.specs.declared.ends.End.{End}
 use Rattle.session_core.specs.Causes.{EndsHaveCauses}
 use Rattle.session_core.specs.Ends.{KeepsEnds}
 use Rattle.session_core.specs.Settling.{SettlesOne, SettlesOn}

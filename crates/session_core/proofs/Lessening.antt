@@ -3,14 +3,15 @@ use Rattle.std.proofs.Common.{◌≡◌, ◌≢◌, ℕ, zero, suc, ◌+◌, ◌
 use Rattle.std.proofs.lemmas.List.{length-drop, length-take}
 use Rattle.std.specs.Option.{option_map}
 use Rattle.link_bay.specs.Connections.{ConnectionRecord}
-use Rattle.session_core.specs.declared.packet.Packet.{Packet}
-use Rattle.session_core.specs.declared.answers.Sent.{Sent}
-use Rattle.session_core.specs.declared.answers.Sent.TheVariants as S
-use Rattle.session_core.specs.Clients.{ClientSeen, plain, plain_clients, waiting, front_size, front_rest}
+use Rattle.client_connection.specs.declared.packet.Packet.{Packet}
+use Rattle.client_connection.specs.declared.answers.Sent.{Sent}
+use Rattle.client_connection.specs.declared.answers.Sent.TheVariants as S
+use Rattle.client_connection.specs.Clients.{ClientSeen, plain, waiting, front_size, front_rest}
+use Rattle.session_core.specs.Slots.{plain_clients, WritesSlot}
 use Rattle.session_core.specs.State.{open_client}
 use Rattle.session_core.specs.Ends.{waiting_in, waiting_at, SendsLess}
-use Rattle.session_core.specs.Sending.{Writes, WritesSlot}
-use Rattle.session_core.proofs.Sendings.{waiting_taken}
+use Rattle.client_connection.specs.Sending.{Writes}
+use Rattle.client_connection.proofs.Sendings.{waiting_taken}
 use Rattle.session_core.proofs.Lives.{open_at, clients_now}
 
 -- what was put in an open connection's place stands there

@@ -9,9 +9,10 @@ use Rattle.std.specs.Prelude.{IsSome, slice_get}
 use Rattle.paint_script.specs.Painting.{desk_at}
 use Rattle.window_model.specs.Desktop.{Window}
 use Rattle.paint_script.specs.declared.paint.Paint.{Paint}
-use Rattle.session_core.specs.declared.ends.End.{End}
-use Rattle.session_core.specs.declared.ends.End.TheVariants.{Unended}
-use Rattle.session_core.specs.Clients.{ClientSeen, plain, plain_clients}
+use Rattle.client_connection.specs.declared.ends.End.{End}
+use Rattle.client_connection.specs.declared.ends.End.TheVariants.{Unended}
+use Rattle.client_connection.specs.Clients.{ClientSeen, plain}
+use Rattle.session_core.specs.Slots.{plain_clients}
 use Rattle.session_core.specs.State.{IsSession, is_unended, joined, open_client}
 use Rattle.session_core.proofs.Slots.{plain_clients-set, get_or-plain, replaced_same}
 

@@ -6,12 +6,12 @@ use Rattle.std.proofs.lemmas.Option.{slice_get-get_or, slice_get_within}
 use Rattle.link_bay.specs.Connections.{ConnectionRecord, OthersStay}
 use Rattle.window_model.specs.Desktop.{Window}
 use Rattle.paint_script.specs.declared.paint.Paint.{Paint}
-use Rattle.session_core.specs.declared.ends.End.{End}
-use Rattle.session_core.specs.declared.ends.End.TheVariants.{Unended}
+use Rattle.client_connection.specs.declared.ends.End.{End}
+use Rattle.client_connection.specs.declared.ends.End.TheVariants.{Unended}
 use Rattle.session_core.specs.Causes.{HasCause, HasEnded, EndsHaveCauses, EndedStay}
 use Rattle.session_core.specs.Ends.{KeepsEnds, EndsOne}
 use Rattle.session_core.specs.State.{is_unended}
-use Rattle.session_core.proofs.Sources.{some_same}
+use Rattle.client_connection.proofs.Sources.{some_same}
 
 -- one connection that was open has ended so, with its cause, and what is known of the others stays
 pub record EndsOneFor (tells : Bool) (lines : List Paint) (desk : List Window) (was now : ℕ → ConnectionRecord) (old new : List End) (e : End) : Type 0 where

@@ -9,33 +9,33 @@ use Rattle.window_model.specs.Desktop.{Window, IsDesktop, has_window}
 use Rattle.paint_script.specs.declared.paint.Paint.{Paint}
 use Rattle.paint_script.specs.Validity.{ArePaints}
 use Rattle.packet_kinds.specs.Written.{Show}
-use Rattle.session_core.specs.declared.packet.Packet.{Packet}
-use Rattle.session_core.specs.declared.source.Source.{Source}
+use Rattle.client_connection.specs.declared.packet.Packet.{Packet}
+use Rattle.client_connection.specs.declared.source.Source.{Source}
 use Rattle.session_core.specs.Calm.{AreClean, IsCalm}
-use Rattle.session_core.specs.declared.ends.End.{End}
-use Rattle.session_core.specs.declared.ends.End.TheVariants as E
-use Rattle.session_core.specs.declared.ends.End.TheVariants.{Settled}
+use Rattle.client_connection.specs.declared.ends.End.{End}
+use Rattle.client_connection.specs.declared.ends.End.TheVariants as E
+use Rattle.client_connection.specs.declared.ends.End.TheVariants.{Settled}
 use Rattle.session_core.specs.Causes.{IsSettled, HasWaited, EndMeans, RoundsMean, SettlingMeans, HasCause}
 use Rattle.session_core.specs.Ends.{rounds_end}
 use Rattle.session_core.specs.State.{open_client}
-use Rattle.session_core.specs.Clients.{ClientSeen, front_rest}
-use Rattle.session_core.specs.Delivery.{find_source}
-use Rattle.session_core.specs.Given.{AreKnown, IsKnown, IsGivenFor, IsHeardFor}
-use Rattle.session_core.specs.Mapped.{MapsIn}
-use Rattle.session_core.specs.Owed.{client_owes, source_owes, draw_relieves}
+use Rattle.client_connection.specs.Clients.{ClientSeen, front_rest}
+use Rattle.client_connection.specs.Delivery.{find_source}
+use Rattle.session_core.specs.Slots.{AreKnown, AreTold}
+use Rattle.client_connection.specs.Given.{IsKnown, IsGivenFor}
+use Rattle.client_connection.specs.Owed.{client_owes, source_owes, draw_relieves}
 use Rattle.xp_base.specs.Points.{is_within}
 use Rattle.xp_base.specs.Grid.{place_of}
-use Rattle.session_core.specs.PointSets.{PointSet, has, HasNone}
+use Rattle.client_connection.specs.PointSets.{PointSet, has, HasNone}
 use Rattle.session_core.specs.Settling.{ShowsItsMapped}
-use Rattle.session_core.specs.Shown.{shows, Differs, unsent}
-use Rattle.session_core.specs.Told.{IsTold, IsToldFor, AreTold, layout}
-use Rattle.session_core.specs.Wire.{client_limit}
-use Rattle.session_core.proofs.Givens.{has_hello}
-use Rattle.session_core.proofs.Meanings.{rose_some}
-use Rattle.session_core.proofs.Owing.{any_found, sources_distinct}
-use Rattle.session_core.proofs.Shown.{owes_what_differs, will_show, desk_sized}
-use Rattle.session_core.proofs.Sources.{source_where}
-use Rattle.session_core.proofs.Talking.{maps_marked, script_geometry}
+use Rattle.client_connection.specs.Shown.{shows, Differs, unsent}
+use Rattle.client_connection.specs.Told.{IsTold, IsToldFor, layout}
+use Rattle.client_connection.specs.Wire.{client_limit}
+use Rattle.client_connection.proofs.Givens.{has_hello}
+use Rattle.client_connection.proofs.Knowns.{marked}
+use Rattle.session_core.proofs.Meanings.{rose_some, breaks_off}
+use Rattle.client_connection.proofs.Owing.{any_found, sources_distinct}
+use Rattle.client_connection.proofs.Shown.{owes_what_differs, will_show, desk_sized}
+use Rattle.client_connection.proofs.Sources.{source_where}
 
 -- nothing is to be sent
 nothing_unsent : (packets : List Packet) (taken : ℕ) → packets ≡ [] → front_rest packets taken ++ concat (map (λ (p : Packet). p.bytes) (drop 1 packets)) ≡ []
@@ -75,14 +75,6 @@ calm_same desk c sent wid x y s is told greeted none clean source mapped differs
     let waiting : list_any (λ (p : Packet). draw_relieves wid x y p.draw) c.packets ≡ false = ap (list_any (λ (p : Packet). draw_relieves wid x y p.draw)) none in
     absurd (cc (sym owed ∙ ap (λ b. b || list_any (λ (p : Packet). draw_relieves wid x y p.draw) c.packets) pending ∙ waiting))
 
--- a window that the client mapped has a mapped source
-marked : (lines : List Paint) (desk : List Window) (c : ClientSeen) (wid : ℕ) (sent given heard : Option (List ℕ)) → ArePaints lines → IsGivenFor lines c given → IsHeardFor lines desk c sent given heard → MapsIn wid sent given heard
-    → (s : Source) × (find_source c.sources wid ≡ Some s) × (s.mapped ≡ true)
-marked lines desk c wid None given heard paints is known maps = absurd maps
-marked lines desk c wid (Some sent) None heard paints is known maps = absurd maps
-marked lines desk c wid (Some sent) (Some given) None paints is known maps = absurd maps
-marked lines desk c wid (Some sent) (Some given) (Some heard) paints is known maps = maps_marked lines desk c sent given heard wid (λ g. script_geometry lines g paints) is known maps
-
 pub settled_means : (tells : Bool) (lines : List Paint) (desk : List Window) (c : ClientSeen) (r : ConnectionRecord) → IsDesktop desk → ArePaints lines → IsToldFor desk c r.sent → IsKnown tells lines desk c r → IsCalm desk (Some c) → HasWaited r
     → IsSettled lines desk r
 settled_means tells lines desk c r is paints told known calm waited = record {
@@ -112,7 +104,7 @@ calm_settled connection tells lines desk clients k is paints told known calm wai
 -- what an end of rounds means of the whole connection
 end_rounds : (lines : List Paint) (desk : List Window) (was r : ConnectionRecord) (e : End) → RoundsMean lines was e r → EndMeans lines desk e r
 end_rounds lines desk was r E.Settled means = absurd means
-end_rounds lines desk was r E.Unbuilt (inl broken) = inl broken
+end_rounds lines desk was r E.Unbuilt (inl broken) = inl (breaks_off lines was r broken)
 end_rounds lines desk was r E.Unbuilt (inr (rose, unheard)) = inr (rose_some was.waits r.waits rose, unheard)
 end_rounds lines desk was r E.Short means = tt
 end_rounds lines desk was r E.Unended means = absurd means

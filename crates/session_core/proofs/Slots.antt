@@ -4,7 +4,8 @@ use Rattle.std.specs.Option.{option_map}
 use Rattle.std.proofs.Math.Seq.{map-set_same}
 use Rattle.std.proofs.lemmas.List.{map-set, length-map}
 use Rattle.std.proofs.lemmas.List.Edits.{map_over_more}
-use Rattle.session_core.specs.Clients.{ClientSeen, plain, plain_clients}
+use Rattle.client_connection.specs.Clients.{ClientSeen, plain}
+use Rattle.session_core.specs.Slots.{plain_clients}
 
 -- what is kept of one connection was replaced
 pub plain_clients-set : (clients : List (Option ClientSeen)) (k : ℕ) (slot : Option ClientSeen) → plain_clients (set clients k slot) ≡ set (plain_clients clients) k (option_map plain slot)

@@ -16,26 +16,26 @@ use Rattle.paint_script.specs.declared.paint.Paint.{Paint}
 use Rattle.paint_script.specs.Validity.{ArePaints}
 use Rattle.session_core.specs.declared.answers.Received.{Received}
 use Rattle.session_core.specs.declared.answers.Received.TheVariants as R
-use Rattle.session_core.specs.declared.answers.Captured.{Captured}
-use Rattle.session_core.specs.declared.answers.Captured.TheVariants as C
-use Rattle.session_core.specs.declared.answers.Sent.{Sent}
-use Rattle.session_core.specs.declared.answers.Sent.TheVariants as S
-use Rattle.session_core.specs.declared.ends.End.{End}
-use Rattle.session_core.specs.declared.ends.End.TheVariants as E
-use Rattle.session_core.specs.Causes.{BreaksOff, DropMeans, GaveNoHello, GaveUnbuilt, HasWaited, ReachesFlood, ReadsStay, RoundsMean}
-use Rattle.session_core.specs.Clients.{ClientSeen, plain_clients}
-use Rattle.session_core.specs.Shown.{IsAttached}
-use Rattle.session_core.specs.Given.{TellsAll, IsGivenFor, AreKnown}
+use Rattle.client_connection.specs.declared.answers.Captured.{Captured}
+use Rattle.client_connection.specs.declared.answers.Captured.TheVariants as C
+use Rattle.client_connection.specs.declared.answers.Sent.{Sent}
+use Rattle.client_connection.specs.declared.answers.Sent.TheVariants as S
+use Rattle.client_connection.specs.declared.ends.End.{End}
+use Rattle.client_connection.specs.declared.ends.End.TheVariants as E
+use Rattle.session_core.specs.Causes.{BreaksOffSince, DropMeans, GaveNoHello, GaveUnbuilt, HasWaited, ReachesFlood, ReadsStay, RoundsMean}
+use Rattle.client_connection.specs.Clients.{ClientSeen}
+use Rattle.session_core.specs.Slots.{plain_clients, IsAttached, AreKnown}
+use Rattle.client_connection.specs.Given.{TellsAll, IsGivenFor}
 use Rattle.session_core.specs.Reading.{Reads, ReadEnds, EndsReading}
-use Rattle.session_core.specs.Sending.{Writes, WriteEnds, offered}
+use Rattle.client_connection.specs.Sending.{Writes, WriteEnds, offered}
 use Rattle.session_core.specs.Settling.{ActsOnce, ActsThrough, Acts}
 use Rattle.session_core.specs.State.{Seen, open_client}
 use Rattle.session_core.specs.Steps.{Receives, ReceivesOne, Captures, CapturesOne, Sends, SendsOne, with_client, with_end, receive_ends, send_ends}
 use Rattle.session_core.proofs.Calms.{now_open}
-use Rattle.session_core.proofs.Givens.{built_size, no_hello}
-use Rattle.session_core.proofs.Knowns.{some_append}
-use Rattle.session_core.proofs.Meanings.{rose_some}
-use Rattle.session_core.proofs.Talking.{script_geometry}
+use Rattle.client_connection.proofs.Givens.{built_size, no_hello}
+use Rattle.client_connection.proofs.Knowns.{some_append}
+use Rattle.session_core.proofs.Meanings.{rose_some, CountsLater, later_same, later_on, later_read, later_wrote, breaks_since}
+use Rattle.client_connection.proofs.Talking.{script_geometry}
 
 -- the client of a connection that is open
 pub the_client : {A : Type 0} (o : Option A) → IsSome o → (c : A) × (o ≡ Some c)
@@ -96,7 +96,7 @@ past_more lines c budget n (Some given) given' bytes paints is size past near kn
     absurd (omega (arith, small, near, past, size, length-append given bytes)))
 
 pub receives_past : {B : Type 0} (connection : B → ℕ → ConnectionRecord) (tells : Bool) (k n budget : ℕ) (old new : Seen B) → IsSome (open_client old.clients k) → Receives connection k old (R.Took n) new → budget < n
-    → ReachesFlood budget (connection old.bay k).given → ArePaints new.lines → AreKnown tells (connection new.bay) new.lines new.desk new.clients → BreaksOff new.lines (connection new.bay k)
+    → ReachesFlood budget (connection old.bay k).given → ArePaints new.lines → AreKnown tells (connection new.bay) new.lines new.desk new.clients → BreaksOffSince new.lines (connection old.bay k) (connection new.bay k)
 receives_past connection tells k n budget old new some receives past near paints known =
     let one = receives_open connection k old new (R.Took n) some receives in
     let reads = one.2.1 in
@@ -269,6 +269,27 @@ tells_through provider connection tells k (next ∷ through) old new acts all = 
 pub acts_tell : {B : Type 0} (provider : B → ProviderRecord) (connection : B → ℕ → ConnectionRecord) (tells : Bool) (k : ℕ) (old new : Seen B) → Acts provider connection k old new → TellsAll tells (connection old.bay k) → TellsAll tells (connection new.bay k)
 acts_tell provider connection tells k old new acts all = tells_through provider connection tells k acts.0 old new acts.1 all
 
+-- no count falls in acts
+later_once : {B : Type 0} (provider : B → ProviderRecord) (connection : B → ℕ → ConnectionRecord) (k : ℕ) (old new : Seen B) → ActsOnce provider connection k old new → CountsLater (connection old.bay k) (connection new.bay k)
+later_once provider connection k old new (others, inl act) = elim (receives_gives connection k old new act.0 act.1) [
+  | inl same ↦ later_same _ _ same
+  | inr gives ↦ later_read _ _ gives.0 gives.1 4096 gives.2 gives.3
+]
+later_once provider connection k old new (others, inr (inl act)) = later_same _ _ (ap (λ b. connection b k) (captures_bay k act.0 old new act.1 act.2))
+later_once provider connection k old new (others, inr (inr act)) = elim (sends_gives connection k act.0 old new act.1 act.3) [
+  | inl same ↦ later_same _ _ same
+  | inr gives ↦ later_wrote _ _ gives.0 gives.1 gives.2
+]
+
+later_through : {B : Type 0} (provider : B → ProviderRecord) (connection : B → ℕ → ConnectionRecord) (k : ℕ) (through : List (Seen B)) (old new : Seen B) → ActsThrough provider connection k through old new
+    → CountsLater (connection old.bay k) (connection new.bay k)
+later_through provider connection k [] old new same = later_same _ _ (ap (λ (s : Seen _). connection s.bay k) same)
+later_through provider connection k (next ∷ through) old new acts =
+    later_on (connection old.bay k) (connection next.bay k) (connection new.bay k) (later_once provider connection k old next acts.0) (later_through provider connection k through next new acts.1)
+
+pub acts_later : {B : Type 0} (provider : B → ProviderRecord) (connection : B → ℕ → ConnectionRecord) (k : ℕ) (old new : Seen B) → Acts provider connection k old new → CountsLater (connection old.bay k) (connection new.bay k)
+acts_later provider connection k old new acts = later_through provider connection k acts.0 old new acts.1
+
 -- a client that has not said its whole hello when a read had to wait
 plain_attached : (clients : List (Option ClientSeen)) (k : ℕ) → IsAttached (plain_clients clients) k → IsAttached clients k
 plain_attached [] k on = on
@@ -292,11 +313,11 @@ ungreeted_unheard connection tells lines desk clients k some off known =
     not_greeted c here true is = absurd (off (plain_attached clients k (subst (λ (o : Option ClientSeen). IsSomeAnd o (λ (d : ClientSeen). d.greeted ≡ true)) (sym here) is)))
 
 -- an end that a read or a write gave in rounds
-pub dropped_rounds : (lines : List Paint) (was now : ConnectionRecord) (e : End) → DropMeans lines e now → RoundsMean lines was e now
-dropped_rounds lines was now E.Settled means = absurd means
-dropped_rounds lines was now E.Unbuilt means = inl means
-dropped_rounds lines was now E.Short means = tt
-dropped_rounds lines was now E.Unended means = absurd means
+pub dropped_rounds : (lines : List Paint) (was mid now : ConnectionRecord) (e : End) → CountsLater was mid → DropMeans lines mid e now → RoundsMean lines was e now
+dropped_rounds lines was mid now E.Settled later means = absurd means
+dropped_rounds lines was mid now E.Unbuilt later means = inl (breaks_since lines was mid now later means)
+dropped_rounds lines was mid now E.Short later means = tt
+dropped_rounds lines was mid now E.Unended later means = absurd means
 
 -- rounds in which a read had to wait for a client that has not said its whole hello
 pub unheard_rounds : {A : Type 0} (lines : List Paint) (was now : ConnectionRecord) (rounds : Result A End) → IfErr rounds (λ e. e ≡ E.Unbuilt) → Rose was.waits now.waits → IfErr rounds (λ e. GaveNoHello now.given)

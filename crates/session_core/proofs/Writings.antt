@@ -5,20 +5,21 @@ use Rattle.std.specs.Prelude.{MatchOption, IsSome, IfSome}
 use Rattle.link_bay.specs.Connections.{ConnectionRecord}
 use Rattle.window_model.specs.Desktop.{Window, find_window}
 use Rattle.paint_script.specs.declared.paint.Paint.{Paint}
-use Rattle.session_core.specs.declared.ends.End.{End}
-use Rattle.session_core.specs.declared.ends.End.TheVariants.{Unbuilt, Short}
-use Rattle.session_core.specs.declared.answers.Sent.{Sent}
-use Rattle.session_core.specs.declared.answers.Sent.TheVariants as S
+use Rattle.client_connection.specs.declared.ends.End.{End}
+use Rattle.client_connection.specs.declared.ends.End.TheVariants.{Unbuilt, Short}
+use Rattle.client_connection.specs.declared.answers.Sent.{Sent}
+use Rattle.client_connection.specs.declared.answers.Sent.TheVariants as S
 use Rattle.session_core.specs.declared.answers.Received.{Received}
 use Rattle.session_core.specs.declared.answers.Received.TheVariants as R
-use Rattle.session_core.specs.declared.answers.Captured.{Captured}
-use Rattle.session_core.specs.declared.answers.Captured.TheVariants as C
-use Rattle.session_core.specs.Clients.{ClientSeen, plain, plain_clients}
+use Rattle.client_connection.specs.declared.answers.Captured.{Captured}
+use Rattle.client_connection.specs.declared.answers.Captured.TheVariants as C
+use Rattle.client_connection.specs.Clients.{ClientSeen, plain}
+use Rattle.session_core.specs.Slots.{plain_clients, HearsSlot, WritesSlot, FailsSlot, CapturesSlot}
 use Rattle.session_core.specs.State.{Seen, open_client}
-use Rattle.session_core.specs.Hearing.{HearsSlot, IsUnbuilt}
+use Rattle.client_connection.specs.Hearing.{IsUnbuilt}
 use Rattle.session_core.specs.Reading.{Reads, EndsReading}
-use Rattle.session_core.specs.Sending.{Writes, WritesSlot, Fails, FailsSlot, WriteEnds}
-use Rattle.session_core.specs.Capturing.{CapturesWindow, CapturesSlot}
+use Rattle.client_connection.specs.Sending.{Writes, Fails, WriteEnds}
+use Rattle.client_connection.specs.Capturing.{CapturesWindow}
 use Rattle.session_core.specs.Steps.{Sends, SendsOne, Receives, ReceivesOne, Captures, CapturesOne, send_ends, receive_ends, with_client, with_end}
 use Rattle.std.proofs.lemmas.List.{set-get_or, get_or_default}
 use Rattle.link_bay.specs.Answers.{ReadGives}

@@ -1,10 +1,10 @@
 -- What settling leaves of a connection that it ends `Settled`.
 use Rattle.std.specs.Prelude.{ℕ, ◌≡◌, true, IsSomeAnd, Option, Some, None, List, []}
 use Rattle.window_model.specs.Desktop.{Window, has_window}
-use Rattle.session_core.specs.declared.source.Source.{Source}
-use Rattle.session_core.specs.PointSets.{HasNone}
-use Rattle.session_core.specs.Clients.{ClientSeen}
-use Rattle.session_core.specs.Delivery.{find_source}
+use Rattle.client_connection.specs.declared.source.Source.{Source}
+use Rattle.client_connection.specs.PointSets.{HasNone}
+use Rattle.client_connection.specs.Clients.{ClientSeen}
+use Rattle.client_connection.specs.Delivery.{find_source}
 
 -- of a window that is mapped nothing is pending
 abbrev pub IsCleanAt : List Source → ℕ → Type 0

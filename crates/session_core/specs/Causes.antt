@@ -1,17 +1,17 @@
 -- What each end of a connection means, read from what the provider knows of it.
 use Rattle.std.specs.Prelude.{ℕ, ◌+◌, ◌≤◌, ◌≡◌, ◌≢◌, ◌⊎◌, Bool, true, false, Option, Some, None, List, length, slice_get}
-use Rattle.xp_base.specs.Counts.{Rose}
+use Rattle.xp_base.specs.Counts.{Rose, RoseBy}
 use Rattle.link_bay.specs.Connections.{ConnectionRecord}
 use Rattle.window_model.specs.Desktop.{Window}
 use Rattle.paint_script.specs.declared.paint.Paint.{Paint}
-use Rattle.session_core.specs.declared.ends.End.{End}
-use Rattle.session_core.specs.declared.ends.End.TheVariants as end
-use Rattle.session_core.specs.Given.{IsBuilt, HasHello, TellsAll}
-use Rattle.session_core.specs.Mapped.{IsMapped}
-use Rattle.session_core.specs.Shown.{shows, Differs}
+use Rattle.client_connection.specs.declared.ends.End.{End}
+use Rattle.client_connection.specs.declared.ends.End.TheVariants as end
+use Rattle.client_connection.specs.Given.{IsBuilt, HasHello, TellsAll}
+use Rattle.client_connection.specs.Mapped.{IsMapped}
+use Rattle.client_connection.specs.Shown.{shows, Differs}
 use Rattle.session_core.specs.State.{is_unended}
-use Rattle.session_core.specs.Told.{layout}
-use Rattle.session_core.specs.Wire.{client_limit}
+use Rattle.client_connection.specs.Told.{layout}
+use Rattle.client_connection.specs.Wire.{client_limit}
 use Rattle.packet_kinds.specs.Written.{Show}
 
 -- The bytes sent are whole packets without a fault, and the client shows exactly the desktop: its windows in their order, at their
@@ -21,8 +21,8 @@ pub record ShowsExactly (desk : List Window) (r : ConnectionRecord) (sent : List
   pub laid : layout (shows sent) ≡ layout desk
   pub same : (wid x y : ℕ) → IsMapped r wid → Differs desk (shows sent) wid x y → ⊥
 
--- a settled client: all that it said was read after the last byte was sent, it has said its hello and nothing that is not built,
--- and it shows exactly the desktop
+-- a settled client: after the last byte sent to it a read found nothing more (so no byte is unheard), it has said its hello and
+-- nothing that is not built, and it shows exactly the desktop
 pub record IsSettled (lines : List Paint) (desk : List Window) (r : ConnectionRecord) : Type 0 where
   pub read_out : r.unheard ≡ 0
   pub waited : r.waits ≢ 0
@@ -48,9 +48,14 @@ BreaksOff lines r = (r.faults ≢ 0) ⊎ (r.ends ≢ 0) ⊎ ((1000 ≤ r.dry) ×
 abbrev pub IsUnbuiltFor : List Paint → ConnectionRecord → Type 0
 IsUnbuiltFor lines r = BreaksOff lines r ⊎ ((r.waits ≢ 0) × GaveNoHello r.given)
 
--- the same, where only the reads after this time count as having had to wait
+-- the same, where only what came after this time counts: a fault, an end, 1,000 writes that took nothing, of which the last
+-- 1,000 are in a row; but all bytes that the client said
+abbrev pub BreaksOffSince : List Paint → ConnectionRecord → ConnectionRecord → Type 0
+BreaksOffSince lines was r = Rose was.faults r.faults ⊎ Rose was.ends r.ends ⊎ (RoseBy 1000 was.dry r.dry × (1000 ≤ r.drought)) ⊎ GaveUnbuilt lines r.given
+
+-- those, or a read after this time had to wait for a client that has not said its whole hello
 abbrev pub IsUnbuiltSince : List Paint → ConnectionRecord → ConnectionRecord → Type 0
-IsUnbuiltSince lines was r = BreaksOff lines r ⊎ (Rose was.waits r.waits × GaveNoHello r.given)
+IsUnbuiltSince lines was r = BreaksOffSince lines was r ⊎ (Rose was.waits r.waits × GaveNoHello r.given)
 
 -- a write leaves what was read and how often a read had to wait
 abbrev pub ReadsStay : ConnectionRecord → ConnectionRecord → Type 0
@@ -72,12 +77,12 @@ EndMeans lines desk end.Unbuilt r = IsUnbuiltFor lines r
 EndMeans lines desk end.Short r = Unit {0}
 EndMeans lines desk end.Unended r = Unit {0}
 
--- what an end means that one read or one write gives
-abbrev pub DropMeans : List Paint → End → ConnectionRecord → Type 0
-DropMeans lines end.Settled r = ⊥
-DropMeans lines end.Unbuilt r = BreaksOff lines r
-DropMeans lines end.Short r = Unit {0}
-DropMeans lines end.Unended r = ⊥
+-- what an end means that reads alone or writes alone give, from this time on
+abbrev pub DropMeans : List Paint → ConnectionRecord → End → ConnectionRecord → Type 0
+DropMeans lines was end.Settled r = ⊥
+DropMeans lines was end.Unbuilt r = BreaksOffSince lines was r
+DropMeans lines was end.Short r = Unit {0}
+DropMeans lines was end.Unended r = ⊥
 
 -- what an end means that rounds of reads, captures and writes give
 abbrev pub RoundsMean : List Paint → ConnectionRecord → End → ConnectionRecord → Type 0

@@ -1,10 +1,10 @@
 -- The ends of connections, by their numbers, and what is left to do before all have ended.
 use Rattle.std.specs.Prelude.{ℕ, ◌+◌, ◌*◌, ◌<◌, ◌≤◌, ◌≡◌, ◌⊎◌, Bool, true, false, Option, Some, None, Result, Ok, Err, List, length, slice_set, slice_index_or, count_by, All}
-use Rattle.session_core.specs.declared.ends.End.{End}
-use Rattle.session_core.specs.declared.ends.End.TheVariants.{Settled, Short}
-use Rattle.session_core.specs.declared.answers.Sent.{Sent}
-use Rattle.session_core.specs.declared.answers.Sent.TheVariants as S
-use Rattle.session_core.specs.Clients.{ClientSeen, waiting}
+use Rattle.client_connection.specs.declared.ends.End.{End}
+use Rattle.client_connection.specs.declared.ends.End.TheVariants.{Settled, Short}
+use Rattle.client_connection.specs.declared.answers.Sent.{Sent}
+use Rattle.client_connection.specs.declared.answers.Sent.TheVariants as S
+use Rattle.client_connection.specs.Clients.{ClientSeen, waiting}
 use Rattle.session_core.specs.State.{is_unended, open_client}
 
 -- an end stays once it is not `Unended`

@@ -5,12 +5,12 @@ use Rattle.link_bay.specs.Answers.{ReadGives}
 use Rattle.link_bay.specs.declared.bay.Gave.TheVariants as G
 use Rattle.window_model.specs.Desktop.{Window}
 use Rattle.paint_script.specs.declared.paint.Paint.{Paint}
-use Rattle.session_core.specs.declared.ends.End.{End}
-use Rattle.session_core.specs.declared.ends.End.TheVariants as end
+use Rattle.client_connection.specs.declared.ends.End.{End}
+use Rattle.client_connection.specs.declared.ends.End.TheVariants as end
 use Rattle.session_core.specs.declared.answers.Received.{Received}
 use Rattle.session_core.specs.declared.answers.Received.TheVariants as R
-use Rattle.session_core.specs.Clients.{ClientSeen}
-use Rattle.session_core.specs.Hearing.{Hears, IsUnbuilt}
+use Rattle.client_connection.specs.Clients.{ClientSeen}
+use Rattle.client_connection.specs.Hearing.{Hears, IsUnbuilt}
 
 -- a read that does not end the connection: what the provider gave, and the client before and after
 abbrev pub Reads : ConnectionRecord → ConnectionRecord → List Paint → List Window → ClientSeen → Received → ClientSeen → Type 0

@@ -6,15 +6,16 @@ use Rattle.link_bay.specs.Provider.{ProviderRecord}
 use Rattle.window_model.specs.Desktop.{Window}
 use Rattle.session_core.specs.declared.answers.Accepted.{Accepted}
 use Rattle.session_core.specs.declared.answers.Received.{Received}
-use Rattle.session_core.specs.declared.answers.Captured.{Captured}
-use Rattle.session_core.specs.declared.answers.Sent.{Sent}
-use Rattle.session_core.specs.declared.ends.End.{End}
-use Rattle.session_core.specs.declared.ends.End.TheVariants.{Settled}
-use Rattle.session_core.specs.declared.source.Source.{Source}
+use Rattle.session_core.specs.declared.answers.Received.TheVariants.{Again}
+use Rattle.client_connection.specs.declared.answers.Captured.{Captured}
+use Rattle.client_connection.specs.declared.answers.Sent.{Sent}
+use Rattle.client_connection.specs.declared.ends.End.{End}
+use Rattle.client_connection.specs.declared.ends.End.TheVariants.{Settled}
+use Rattle.client_connection.specs.declared.source.Source.{Source}
 use Rattle.session_core.specs.Causes.{EndsHaveCauses, EndedStay, SettlingMeans}
-use Rattle.session_core.specs.Clients.{ClientSeen}
-use Rattle.session_core.specs.Delivery.{find_source}
-use Rattle.session_core.specs.Shown.{shows, Differs}
+use Rattle.client_connection.specs.Clients.{ClientSeen}
+use Rattle.client_connection.specs.Delivery.{find_source}
+use Rattle.client_connection.specs.Shown.{shows, Differs}
 use Rattle.session_core.specs.State.{Seen, open_client, is_unended}
 use Rattle.session_core.specs.Steps.{Accepts, Receives, Captures, Sends, with_end}
 
@@ -38,6 +39,10 @@ ActsThrough provider connection k (next ∷ through) old new = ActsOnce provider
 abbrev pub Acts : {B : Type 0} → (B → ProviderRecord) → (B → ℕ → ConnectionRecord) → ℕ → Seen B → Seen B → Type 0
 Acts {B = B} provider connection k old new = (through : List (Seen B)) × ActsThrough provider connection k through old new
 
+-- acts for a connection, the last of which is a read that had to wait
+abbrev pub EndsWaiting : {B : Type 0} → (B → ProviderRecord) → (B → ℕ → ConnectionRecord) → ℕ → Seen B → Seen B → Type 0
+EndsWaiting {B = B} provider connection k old new = (before : Seen B) × Acts provider connection k old before × KeepsOthers provider connection k before.bay new.bay × Receives connection k before Again new
+
 -- in no window that the client has mapped, as its sources are marked, a pixel differs
 abbrev pub ShowsItsMapped : List Window → Option ClientSeen → Option (List ℕ) → Type 0
 ShowsItsMapped desk slot told = (c : ClientSeen) (sent : List ℕ) (wid x y : ℕ) (s : Source) → slot ≡ Some c → told ≡ Some sent → find_source c.sources wid ≡ Some s → s.mapped ≡ true
@@ -56,7 +61,8 @@ pub record Closes {B : Type 0} (provider : B → ProviderRecord) (connection : B
 abbrev pub EndsIn : {B : Type 0} → (B → ProviderRecord) → (B → ℕ → ConnectionRecord) → ℕ → End → Seen B → Seen B → Type 0
 EndsIn provider connection k ended old new = ((open_client new.clients k ≡ None) × (ended ≢ Settled) × (new ≡ old)) ⊎ Closes provider connection k ended old new
 
--- acts are made for the open connection of least number until it ends, as their own reads and waits have it
+-- Acts are made for the open connection of least number until it ends, with a cause that came in them. Where it ends `Settled`
+-- the last of them is a read that had to wait.
 pub record SettlesOne {B : Type 0} (provider : B → ProviderRecord) (connection : B → ℕ → ConnectionRecord) (k : ℕ) (old new : Seen B) : Type 0 where
   pub least : (d : ℕ) → d < k → open_client old.clients d ≡ None
   pub ended : End
@@ -64,6 +70,7 @@ pub record SettlesOne {B : Type 0} (provider : B → ProviderRecord) (connection
   pub acts : Acts provider connection k old last
   pub ends : EndsIn provider connection k ended last new
   pub means : SettlingMeans old.lines (connection old.bay k) ended (connection new.bay k)
+  pub read_out : ended ≡ Settled → EndsWaiting provider connection k old last
 
 -- one step of settling: somebody is accepted or nobody, or a connection is settled
 abbrev pub SettlingStep : {B : Type 0} → (B → ProviderRecord) → (B → ℕ → ConnectionRecord) → Bool → Seen B → Seen B → Type 0

@@ -3,9 +3,9 @@ use Rattle.std.specs.Prelude.{ℕ, ◌≤◌, ◌<◌, ◌^◌, ◌≡◌, Bool,
 use Rattle.window_model.specs.Desktop.{Window}
 use Rattle.paint_script.specs.declared.paint.Paint.{Paint}
 use Rattle.paint_script.specs.Painting.{desk_at}
-use Rattle.session_core.specs.Clients.{ClientSeen}
-use Rattle.session_core.specs.declared.ends.End.{End}
-use Rattle.session_core.specs.declared.ends.End.TheVariants.{Settled, Unbuilt, Short, Unended}
+use Rattle.client_connection.specs.Clients.{ClientSeen}
+use Rattle.client_connection.specs.declared.ends.End.{End}
+use Rattle.client_connection.specs.declared.ends.End.TheVariants.{Settled, Unbuilt, Short, Unended}
 
 -- the paint lines and the place in them, the desktop, the connections by their numbers (none where one has ended),
 -- the end of each (`Unended` while it is open), and the provider

@@ -3,11 +3,10 @@ use Rattle.std.specs.Prelude.{ℕ, Bool, Option, List}
 use Rattle.link_bay.specs.Connections.{ConnectionRecord}
 use Rattle.window_model.specs.Desktop.{Window}
 use Rattle.paint_script.specs.declared.paint.Paint.{Paint}
-use Rattle.session_core.specs.declared.ends.End.{End}
-use Rattle.session_core.specs.Clients.{ClientSeen, plain_clients}
+use Rattle.client_connection.specs.declared.ends.End.{End}
+use Rattle.client_connection.specs.Clients.{ClientSeen}
+use Rattle.session_core.specs.Slots.{plain_clients, AreTold, AreKnown}
 use Rattle.session_core.specs.State.{IsSession}
-use Rattle.session_core.specs.Told.{AreTold}
-use Rattle.session_core.specs.Given.{AreKnown}
 
 pub record IsSteady (tells : Bool) (connection : ℕ → ConnectionRecord) (lines : List Paint) (place : ℕ) (desk : List Window) (clients : List (Option ClientSeen)) (ends : List End) (count : ℕ) : Type 0 where
   pub session : IsSession lines place desk clients ends count

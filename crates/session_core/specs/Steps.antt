@@ -7,30 +7,24 @@ use Rattle.link_bay.specs.Provider.{ProviderRecord}
 use Rattle.link_bay.specs.Answers.{AcceptGives}
 use Rattle.link_bay.specs.declared.bay.Accept.TheVariants as L
 use Rattle.paint_script.specs.declared.paint.Paint.{Paint}
-use Rattle.paint_script.specs.declared.paint.Paint.TheVariants.{Open, Fill}
-use Rattle.paint_script.specs.Painting.{painted, rectangle}
+use Rattle.paint_script.specs.Painting.{painted}
 use Rattle.session_core.specs.declared.answers.Painted.{Painted}
 use Rattle.session_core.specs.declared.answers.Painted.TheVariants as P
 use Rattle.session_core.specs.declared.answers.Accepted.{Accepted}
 use Rattle.session_core.specs.declared.answers.Accepted.TheVariants as A
 use Rattle.session_core.specs.declared.answers.Received.{Received}
 use Rattle.session_core.specs.declared.answers.Received.TheVariants as R
-use Rattle.session_core.specs.declared.answers.Captured.{Captured}
-use Rattle.session_core.specs.declared.answers.Captured.TheVariants as C
-use Rattle.session_core.specs.declared.answers.Sent.{Sent}
-use Rattle.session_core.specs.declared.answers.Sent.TheVariants as S
-use Rattle.session_core.specs.declared.ends.End.{End}
-use Rattle.session_core.specs.declared.ends.End.TheVariants as end
-use Rattle.session_core.specs.Clients.{ClientSeen, fresh_client, announced, damaged}
+use Rattle.client_connection.specs.declared.answers.Captured.{Captured}
+use Rattle.client_connection.specs.declared.answers.Captured.TheVariants as C
+use Rattle.client_connection.specs.declared.answers.Sent.{Sent}
+use Rattle.client_connection.specs.declared.answers.Sent.TheVariants as S
+use Rattle.client_connection.specs.declared.ends.End.{End}
+use Rattle.client_connection.specs.declared.ends.End.TheVariants as end
+use Rattle.client_connection.specs.Clients.{painted_client, ClientSeen, fresh_client}
 use Rattle.session_core.specs.Reading.{Reads, EndsReading}
-use Rattle.session_core.specs.Sending.{Writes, WriteEnds}
-use Rattle.session_core.specs.Capturing.{CapturesWindow}
+use Rattle.client_connection.specs.Sending.{Writes, WriteEnds}
+use Rattle.client_connection.specs.Capturing.{CapturesWindow}
 use Rattle.session_core.specs.State.{Seen, capacity, open_count, open_client}
-
--- what a paint line does for each connection that is open
-abbrev pub painted_client : Paint → ClientSeen → ClientSeen
-painted_client (Open wid x y w h) = announced (record { wid = wid; x = x; y = y; w = w; h = h })
-painted_client (Fill wid x y w h colour) = damaged wid (rectangle x y w h)
 
 -- the session after its next paint line
 abbrev pub after_paint : {B : Type 0} → Paint → Seen B → Seen B

@@ -2,9 +2,8 @@
 ghost use Rattle.std.specs.Prelude.{◌≡◌, length};
 ghost use Rattle.link_bay.specs.Connections.{AllStay};
 
-use crate::client::Client;
-use crate::ends::End;
 use crate::state::Session;
+use client_connection::{Client, End};
 use link_bay::Bay;
 use xp_base::Conn;
 

@@ -1,12 +1,11 @@
 // Connections come.
-ghost use Rattle.std.specs.Prelude.{◌≡◌, ◌≤◌, ◌++◌};
+ghost use Rattle.std.specs.Prelude.{◌≡◌, ◌≢◌, ◌≤◌, ◌++◌};
 ghost use Rattle.link_bay.specs.Connections.{OthersStay};
 ghost use Rattle.session_core.specs.State.{open_count};
 
 use crate::answers::Accepted;
-use crate::client::Client;
-use crate::ends::End;
 use crate::state::Session;
+use client_connection::{Client, End};
 use link_bay::{Accept, Bay};
 
 /// How many connections may be open at once.
@@ -21,7 +20,7 @@ impl<B: Bay + Drop> Session<B> {
     pub fn accept(&mut self) -> Accepted
         ensures answer { Accepts B.provider B.connection B.tells self.old result self.new }
         ensures windows { KeepsWindows self.old self.new }
-        ensures faults { (B.provider self.old.bay).faults ≤ (B.provider self.new.bay).faults }
+        ensures well { result ≢ Accepted.Failed → (B.provider self.new.bay).faults ≡ (B.provider self.old.bay).faults }
         ensures lulls { (B.provider self.old.bay).lulls ≤ (B.provider self.new.bay).lulls }
         ensures ends { self.new.ends ≡ self.old.ends ++ accepted_ends result }
         ensures others { OthersStay (B.connection self.old.bay) (B.connection self.new.bay) (B.provider self.old.bay).count }

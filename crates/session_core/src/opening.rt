@@ -1,18 +1,14 @@
 // A window is opened: what each client needs is prepared first, and then put in.
-ghost use Rattle.std.specs.Prelude.{◌≡◌, false, OnOk, OnErr, IfOk, IfSome, All, map};
+ghost use Rattle.std.specs.Prelude.{◌≡◌, false, OnOk, OnErr, IfSome, All, map};
 ghost use Rattle.std.specs.Option.{option_map};
 ghost use Rattle.window_model.specs.Desktop.{IsSide, IsPlace, has_window, opened};
-ghost use Rattle.session_core.specs.Clients.{plain, plain_clients, announced, announcement, IsReady};
+ghost use Rattle.client_connection.specs.Clients.{plain, announced, IsReady};
+ghost use Rattle.session_core.specs.Slots.{plain_clients};
 
-use crate::client::Client;
-use crate::geometry::Geometry;
-use crate::messages::new_window_packet;
-use crate::packet::{Announcement, Packet};
-use crate::points::Points;
-use crate::source::Source;
+use client_connection::{Client, Geometry};
 use std::alloc::Global;
 use window_model::Desk;
-use xp_base::{Bytes, NoMemory};
+use xp_base::NoMemory;
 
 /// Opens a window on the desktop and for each client whose hello was accepted, or changes nothing.
 pub(crate) fn open_window(
@@ -90,64 +86,5 @@ fn announce_slot(slot: &mut Option<Client>, geometry: &Geometry)
 {
     if let Some(client) = slot {
         client.announce(geometry);
-    }
-}
-
-/// The source and the announcement of a window.
-pub(crate) fn make_announcement(
-    alloc: Global,
-    geometry: &Geometry,
-) -> Result<Announcement, NoMemory>
-    requires across { IsPlace geometry.now.x }
-    requires down { IsPlace geometry.now.y }
-    requires wide { IsSide geometry.now.w }
-    requires high { IsSide geometry.now.h }
-    ensures { IfOk result (λ made. made ≡ announcement geometry.now) }
-{
-    let pending = Points::new(alloc, geometry.w, geometry.h, true)?;
-    let bytes = new_window_packet(alloc, geometry)?;
-    Ok(Announcement {
-        source: Source {
-            wid: geometry.wid,
-            mapped: false,
-            pending,
-            next_sequence: 1,
-        },
-        packet: Packet {
-            bytes: Bytes::new(bytes),
-            draw: None,
-        },
-    })
-}
-
-impl Client {
-    /// Prepares the window, where the hello was accepted.
-    fn prepare(&mut self, alloc: Global, geometry: &Geometry) -> Result<(), NoMemory>
-        requires across { IsPlace geometry.now.x }
-        requires down { IsPlace geometry.now.y }
-        requires wide { IsSide geometry.now.w }
-        requires high { IsSide geometry.now.h }
-        ensures same { plain self.new ≡ plain self.old }
-        ensures ready { OnOk result (IsReady geometry.now self.new) }
-    {
-        if self.greeted {
-            self.sources.reserve(1)?;
-            self.packets.reserve(1)?;
-            self.next = Some(make_announcement(alloc, geometry)?);
-        }
-        Ok(())
-    }
-
-    /// Puts in the window that was prepared. Takes no memory.
-    fn announce(&mut self, geometry: &Geometry)
-        requires { IsReady geometry.now self.old }
-        ensures { plain self.new ≡ announced geometry.now (plain self.old) }
-    {
-        if self.greeted {
-            if let Some(Announcement { source, packet }) = self.next.take() {
-                self.sources.push_reserved(source);
-                self.packets.push_reserved(packet);
-            }
-        }
     }
 }

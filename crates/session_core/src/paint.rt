@@ -2,16 +2,15 @@
 ghost use Rattle.std.specs.Prelude.{◌≡◌, OnOk, OnErr, map};
 ghost use Rattle.paint_script.specs.Painting.{painted};
 ghost use Rattle.paint_script.specs.Validity.{IsPaintOn};
-ghost use Rattle.session_core.specs.Steps.{painted_client};
+ghost use Rattle.client_connection.specs.Clients.{painted_client, plain, damaged};
 ghost use Rattle.std.specs.Option.{option_map};
 ghost use Rattle.window_model.specs.Desktop.{IsInWindow, filled_on};
-ghost use Rattle.session_core.specs.Clients.{plain, plain_clients, damaged};
+ghost use Rattle.session_core.specs.Slots.{plain_clients};
 
 use crate::answers::Painted;
-use crate::client::Client;
-use crate::geometry::Geometry;
 use crate::opening::open_window;
 use crate::state::Session;
+use client_connection::{Client, Geometry};
 use link_bay::Bay;
 use paint_script::{Paint, desk_at_next};
 use std::alloc::Global;

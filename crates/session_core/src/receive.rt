@@ -1,16 +1,17 @@
 // Reads.
-ghost use Rattle.std.specs.Prelude.{◌≡◌, ◌≤◌, ◌<◌, ◌↔◌, ℕ, false, IsTrue, IsSome, None, IfSome, OnOk, Err, length, slice_set};
+ghost use Rattle.std.specs.Prelude.{◌≡◌, ◌≤◌, ◌<◌, ℕ, false, None, IfSome, OnOk, Err, length};
 ghost use Rattle.std.specs.Option.{option_map, is_some};
 ghost use Rattle.link_bay.specs.Connections.{OthersStay, AllStay};
-ghost use Rattle.session_core.specs.State.{open_client, is_unended};
-ghost use Rattle.session_core.specs.Clients.{plain};
-ghost use Rattle.session_core.specs.Hearing.{HearsSlot, IsUnbuilt};
+ghost use Rattle.session_core.specs.State.{is_unended};
+ghost use Rattle.client_connection.specs.Clients.{plain};
+ghost use Rattle.session_core.specs.Slots.{HearsSlot};
+ghost use Rattle.client_connection.specs.Hearing.{IsUnbuilt};
 ghost use Rattle.session_core.specs.Reading.{ending_answer as answer_of};
 
 use crate::answers::Received;
-use crate::client::Client;
-use crate::ends::{End, Trouble};
+use crate::connections::{end_client, is_open};
 use crate::state::Session;
+use client_connection::{Client, End, Trouble};
 use link_bay::{Bay, Gave};
 use paint_script::Paint;
 use std::alloc::Global;
@@ -32,7 +33,7 @@ impl<B: Bay + Drop> Session<B> {
         ensures windows { KeepsWindows self.old self.new }
         ensures ends { self.new.ends ≡ ends_with (receive_ends result) c.0 self.old.ends }
         ensures ended { IfSome (receive_ends result) (λ e. is_unended e ≡ false) }
-        ensures means { IfSome (receive_ends result) (λ e. DropMeans self.new.lines e (B.connection self.new.bay c.0)) }
+        ensures means { IfSome (receive_ends result) (λ e. DropMeans self.new.lines (B.connection self.old.bay c.0) e (B.connection self.new.bay c.0)) }
         ensures some { (n : ℕ) → result ≡ Received.Took n → 1 ≤ n }
         ensures others { OthersStay (B.connection self.old.bay) (B.connection self.new.bay) c.0 }
         ensures provider { B.provider self.new.bay ≡ B.provider self.old.bay }
@@ -75,17 +76,6 @@ impl<B: Bay + Drop> Session<B> {
         self.drop_client(c, end);
         ended(end)
     }
-
-    /// Ends the connection so: what is kept of it is dropped, and it is closed.
-    pub(crate) fn drop_client(&mut self, c: Conn, end: End)
-        requires within { c.0 < length self.old.clients }
-        requires ended { is_unended end ≡ false }
-        ensures session { self.new ≡ with_end c.0 end self.new.bay self.old }
-        ensures connections { AllStay (B.connection self.old.bay) (B.connection self.new.bay) }
-        ensures provider { B.provider self.new.bay ≡ B.provider self.old.bay }
-    {
-        end_client(&mut self.clients, &mut self.ends, &mut self.bay, c, end);
-    }
 }
 
 /// How a read answers that it ended the connection so.
@@ -96,34 +86,6 @@ fn ended(end: End) -> Received
         End::Short => Received::NoMemory,
         _ => Received::Ended(end),
     }
-}
-
-fn end_client<B: Bay + Drop>(
-    clients: &mut Vec<Option<Client>>,
-    ends: &mut Vec<End>,
-    bay: &mut B,
-    c: Conn,
-    end: End,
-)
-    requires within { c.0 < length clients.old.items }
-    requires ends { c.0 < length ends.old.items }
-    requires known { c.0 < (B.provider bay.old).count }
-    ensures clients { clients.new.items ≡ slice_set clients.old.items c.0 None }
-    ensures ends { ends.new.items ≡ slice_set ends.old.items c.0 end }
-    ensures connections { AllStay (B.connection bay.old) (B.connection bay.new) }
-    ensures provider { B.provider bay.new ≡ B.provider bay.old }
-{
-    let k = c.0 as usize;
-    clients[k] = None;
-    ends[k] = end;
-    bay.close(c);
-}
-
-pub(crate) fn is_open(clients: &[Option<Client>], k: usize) -> bool
-    ensures open { IsTrue result ↔ IsSome (open_client clients.now k) }
-    ensures within { IsTrue result → k < length clients.now }
-{
-    k < clients.len() && clients[k].is_some()
 }
 
 fn hear_slot(

@@ -2,12 +2,11 @@
 ghost use Rattle.std.specs.Prelude.{◌≡◌, ◌≤◌, ◌↔◌, IsSome, IsTrue, IfOk, IfErr, OnOk, Ok, false};
 ghost use Rattle.xp_base.specs.Counts.{Rose};
 ghost use Rattle.link_bay.specs.Connections.{OthersStay};
-ghost use Rattle.session_core.specs.Shown.{IsAttached as IsAttachedIn};
+ghost use Rattle.session_core.specs.Slots.{IsAttached as IsAttachedIn};
 
-use crate::answers::{Captured, Received, Sent};
-use crate::client::Client;
-use crate::ends::End;
+use crate::answers::Received;
 use crate::state::Session;
+use client_connection::{Captured, Client, End, Sent};
 use link_bay::Bay;
 use xp_base::Conn;
 
@@ -23,10 +22,10 @@ const SEND_LIMIT: u32 = 65_536;
 impl<B: Bay + Drop> Session<B> {
     ghost use Rattle.session_core.specs.State.{KeepsWindows, open_client};
     ghost use Rattle.session_core.specs.Ends.{LeavesEnds, waiting_at, WritesLess};
-    ghost use Rattle.session_core.specs.Shown.{IsAttached};
+    ghost use Rattle.session_core.specs.Slots.{IsAttached};
     ghost use Rattle.session_core.specs.Calm.{AreClean, IsCalm, WaitsForNothing, sources_in};
     ghost use Rattle.session_core.specs.Causes.{DropMeans, GaveNoHello, HasWaited, ReadsStay, ReachesFlood, RoundsMean};
-    ghost use Rattle.session_core.specs.Settling.{Acts};
+    ghost use Rattle.session_core.specs.Settling.{Acts, EndsWaiting};
 
     /// Reads, then captures, writes and reads again, until there was nothing to read after all was written.
     pub(crate) fn make_rounds(&mut self, c: Conn) -> Result<(), End>
@@ -35,6 +34,7 @@ impl<B: Bay + Drop> Session<B> {
         ensures calm { OnOk result (IsCalm self.new.desk (open_client self.new.clients c.0)) }
         ensures heard { OnOk result (HasWaited (B.connection self.new.bay c.0)) }
         ensures waited { OnOk result (Rose (B.connection self.old.bay c.0).waits (B.connection self.new.bay c.0).waits) }
+        ensures waiting { OnOk result (EndsWaiting B.provider B.connection c.0 self.old self.new) }
         ensures means { IfErr result (λ e. RoundsMean self.new.lines (B.connection self.old.bay c.0) e (B.connection self.new.bay c.0)) }
         ensures ends { LeavesEnds c.0 self.old.ends result self.new.ends }
         ensures acts { Acts B.provider B.connection c.0 self.old self.new }
@@ -65,7 +65,8 @@ impl<B: Bay + Drop> Session<B> {
         ensures quiet { IfOk result (λ left. left ≡ budget → self.new.clients ≡ self.old.clients) }
         ensures heard { OnOk result (HasWaited (B.connection self.new.bay c.0)) }
         ensures waited { OnOk result (Rose (B.connection self.old.bay c.0).waits (B.connection self.new.bay c.0).waits) }
-        ensures means { IfErr result (λ e. DropMeans self.new.lines e (B.connection self.new.bay c.0)) }
+        ensures waiting { OnOk result (EndsWaiting B.provider B.connection c.0 self.old self.new) }
+        ensures means { IfErr result (λ e. DropMeans self.new.lines (B.connection self.old.bay c.0) e (B.connection self.new.bay c.0)) }
         ensures acts { Acts B.provider B.connection c.0 self.old self.new }
         ensures others { OthersStay (B.connection self.old.bay) (B.connection self.new.bay) c.0 }
         ensures provider { B.provider self.new.bay ≡ B.provider self.old.bay }
@@ -120,7 +121,7 @@ impl<B: Bay + Drop> Session<B> {
         ensures idle { OnOk result (WaitsForNothing (open_client self.new.clients c.0)) }
         ensures sources { OnOk result (sources_in (open_client self.new.clients c.0) ≡ sources_in (open_client self.old.clients c.0)) }
         ensures reads { ReadsStay (B.connection self.old.bay c.0) (B.connection self.new.bay c.0) }
-        ensures means { IfErr result (λ e. DropMeans self.new.lines e (B.connection self.new.bay c.0)) }
+        ensures means { IfErr result (λ e. DropMeans self.new.lines (B.connection self.old.bay c.0) e (B.connection self.new.bay c.0)) }
         ensures ends { LeavesEnds c.0 self.old.ends result self.new.ends }
         ensures acts { Acts B.provider B.connection c.0 self.old self.new }
         ensures others { OthersStay (B.connection self.old.bay) (B.connection self.new.bay) c.0 }
@@ -144,7 +145,7 @@ impl<B: Bay + Drop> Session<B> {
         ensures idle { result ≡ Ok false → WaitsForNothing (open_client self.new.clients c.0) }
         ensures sources { OnOk result (sources_in (open_client self.new.clients c.0) ≡ sources_in (open_client self.old.clients c.0)) }
         ensures reads { ReadsStay (B.connection self.old.bay c.0) (B.connection self.new.bay c.0) }
-        ensures means { IfErr result (λ e. DropMeans self.new.lines e (B.connection self.new.bay c.0)) }
+        ensures means { IfErr result (λ e. DropMeans self.new.lines (B.connection self.old.bay c.0) e (B.connection self.new.bay c.0)) }
         ensures acts { Acts B.provider B.connection c.0 self.old self.new }
         ensures others { OthersStay (B.connection self.old.bay) (B.connection self.new.bay) c.0 }
         ensures provider { B.provider self.new.bay ≡ B.provider self.old.bay }
@@ -181,7 +182,7 @@ fn is_greeted(clients: &[Option<Client>], k: usize) -> bool
     ensures { IsTrue result ↔ IsAttachedIn clients.now k }
 {
     match clients.get(k) {
-        Some(Some(client)) => client.greeted,
+        Some(Some(client)) => client.is_greeted(),
         _ => false,
     }
 }

@@ -1,9 +1,9 @@
 // What brings every connection to the last windows.
-ghost use Rattle.std.specs.Prelude.{◌≡◌, ◌≢◌, ◌≤◌, true, length};
+ghost use Rattle.std.specs.Prelude.{◌≡◌, ◌≢◌, true, length};
 ghost use Rattle.xp_base.specs.Counts.{Rose};
 
-use crate::ends::End;
 use crate::state::Session;
+use client_connection::End;
 use link_bay::Bay;
 use window_model::Desk;
 
@@ -34,7 +34,7 @@ impl<B: Bay + Drop> Session<B> {
     ghost use Rattle.session_core.specs.Settling.{Settles, SettlesOn};
 
     /// Accepts whoever comes, and settles each connection in turn, that of least number first. Each ends with
-    /// its cause: `Settled` where all that it said was read after the last byte was sent to it and it shows
+    /// its cause: `Settled` where after the last byte sent to it a read found nothing more and it shows
     /// exactly the last windows, `Unbuilt` where it failed or said or did what is not built yet, `Short` for
     /// want of memory. Nothing is drawn that a capture did not make.
     pub fn settle(mut self) -> Calm<B>
@@ -50,7 +50,7 @@ impl<B: Bay + Drop> Session<B> {
         ensures settled { result.how ≡ How.Settled → Rose (B.provider self.bay).lulls (B.provider result.bay).lulls }
         ensures served { result.how ≡ How.Settled → B.tells ≡ true → (B.provider result.bay).room ≡ 0 }
         ensures asked { (B.provider result.bay).asked ≡ (B.provider self.bay).asked }
-        ensures later { (B.provider self.bay).faults ≤ (B.provider result.bay).faults }
+        ensures well { result.how ≢ How.BayFault → (B.provider result.bay).faults ≡ (B.provider self.bay).faults }
     {
         let how = self.settle_all();
         let Session {
@@ -80,7 +80,7 @@ impl<B: Bay + Drop> Session<B> {
         ensures settled { result ≡ How.Settled → Rose (B.provider self.old.bay).lulls (B.provider self.new.bay).lulls }
         ensures served { result ≡ How.Settled → B.tells ≡ true → (B.provider self.new.bay).room ≡ 0 }
         ensures asked { (B.provider self.new.bay).asked ≡ (B.provider self.old.bay).asked }
-        ensures later { (B.provider self.old.bay).faults ≤ (B.provider self.new.bay).faults }
+        ensures well { result ≢ How.BayFault → (B.provider self.new.bay).faults ≡ (B.provider self.old.bay).faults }
     {
         'turns: loop {
             if let Some(how) = self.settle_turn() {

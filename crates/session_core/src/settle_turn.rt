@@ -1,21 +1,19 @@
 // One turn of settling: somebody is accepted, or the open connection of least number is settled.
-ghost use Rattle.std.specs.Prelude.{ℕ, ◌≡◌, ◌≢◌, ◌≤◌, ◌<◌, true, false, Some, None, IfSome, IsSome, length, ◌^◌};
-ghost use Rattle.std.specs.Option.{is_some};
+ghost use Rattle.std.specs.Prelude.{ℕ, ◌≡◌, ◌≢◌, ◌≤◌, ◌<◌, true, Some, None, IfSome, IsSome, length, ◌^◌};
 ghost use Rattle.xp_base.specs.Counts.{Rose};
 ghost use Rattle.session_core.specs.State.{open_client, open_count};
 ghost use Rattle.session_core.specs.Ends.{rounds_end};
 
 use crate::answers::Accepted;
-use crate::client::Client;
-use crate::ends::End;
-use crate::receive::is_open;
+use crate::connections::is_open;
 use crate::settle::How;
 use crate::state::Session;
+use client_connection::{Client, End};
 use link_bay::Bay;
 use xp_base::Conn;
 
 impl<B: Bay + Drop> Session<B> {
-    ghost use Rattle.session_core.specs.State.{KeepsWindows, is_unended};
+    ghost use Rattle.session_core.specs.State.{KeepsWindows};
     ghost use Rattle.session_core.specs.Ends.{KeepsEnds, AllEnded, NoMoreShort, EndsOne, work};
     ghost use Rattle.session_core.specs.Settling.{SettlesOn};
 
@@ -31,7 +29,7 @@ impl<B: Bay + Drop> Session<B> {
         ensures settled { result ≡ Some How.Settled → Rose (B.provider self.old.bay).lulls (B.provider self.new.bay).lulls }
         ensures served { result ≡ Some How.Settled → B.tells ≡ true → (B.provider self.new.bay).room ≡ 0 }
         ensures asked { (B.provider self.new.bay).asked ≡ (B.provider self.old.bay).asked }
-        ensures faults { (B.provider self.old.bay).faults ≤ (B.provider self.new.bay).faults }
+        ensures well { result ≢ Some How.BayFault → (B.provider self.new.bay).faults ≡ (B.provider self.old.bay).faults }
         ensures lulls { (B.provider self.old.bay).lulls ≤ (B.provider self.new.bay).lulls }
     {
         let _ = self.is_painted();

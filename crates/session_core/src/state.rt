@@ -4,8 +4,7 @@ ghost use Rattle.link_bay.specs.Provider.{IsFresh};
 ghost use Rattle.link_bay.specs.Answers.{OrderGives};
 ghost use Rattle.link_bay.specs.Connections.{AllStay};
 
-use crate::client::Client;
-use crate::ends::End;
+use client_connection::{Client, End};
 use link_bay::{Bay, Order};
 use paint_script::{Paints, desk_at_start};
 use std::alloc::Global;
@@ -29,7 +28,7 @@ pub struct Session<B: Bay + Drop> {
 
 impl<B: Bay + Drop> Model for Session<B> {
     ghost use Rattle.std.specs.Prelude.{◌≡◌};
-    ghost use Rattle.session_core.specs.Clients.{plain_clients};
+    ghost use Rattle.session_core.specs.Slots.{plain_clients};
     ghost use Rattle.session_core.specs.State.{Seen};
     ghost use Rattle.session_core.specs.Steady.{IsSteady};
 
@@ -49,9 +48,7 @@ impl<B: Bay + Drop> Model for Session<B> {
 
 impl<B: Bay + Drop> Session<B> {
     ghost use Rattle.session_core.specs.State.{Seen, IsSession};
-    ghost use Rattle.session_core.specs.Told.{AreTold};
-    ghost use Rattle.session_core.specs.Given.{AreKnown};
-    ghost use Rattle.std.specs.Prelude.{MatchResult};
+    ghost use Rattle.session_core.specs.Slots.{AreTold, AreKnown};
     ghost use Rattle.window_model.specs.Desktop.{IsDesktop};
     ghost use Rattle.paint_script.specs.Validity.{ArePaints};
 

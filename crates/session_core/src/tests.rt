@@ -1,11 +1,9 @@
 use super::*;
-use crate::messages::draw_packet;
 use link_bay::{Kind, Name, OneBay, Order};
 use paint_script::{Paints, ScriptRead, read_script};
 use std::alloc::Global;
 use std::test::Fail;
-use window_model::Desk;
-use xp_base::{Conn, Pixel, Rect, Wid};
+use xp_base::{Conn, Wid};
 
 /// A call of a session.
 #[derive(Clone, Copy, Debug)]
@@ -109,35 +107,5 @@ fn a_session_may_be_given_up(rt: HostRuntime) -> Result<(), Fail> {
     assert_eq!(rt; session.is_painted(), true);
     let left = session.abandon();
     assert_eq!(rt; left.ends.as_slice(), [End::Unended].as_slice());
-    Ok(())
-}
-
-/// The draw of one pixel 102030 at 0 0 of window 1, with the sequence number 1.
-const DRAW: &[u8; 79] =
-    b"P\x00\x00\x07\x00\x00\x00\x04\x30\x20\x10\xffP\x00\x00\x00\x00\x00\x00\x3bl4:drawi1ei0ei0ei1ei1e5:rgb320:i1ei4ed10:rgb_format4:BGRXee";
-
-fn one_pixel(alloc: Global, wid: Wid) -> Result<Desk, Fail> {
-    let mut desk = Desk::new(alloc);
-    let pixel = Pixel::new(0x10_20_30).ok_or("a pixel")?;
-    let whole = Rect::new(0, 0, 1, 1).ok_or("a rectangle")?;
-    if desk.find(wid).is_none() {
-        desk.add(wid, 0, 0, 1, 1)?;
-    }
-    if let Some(window) = desk.find(wid) {
-        if whole.lies_in(window.w, window.h) {
-            desk.fill(wid, whole, pixel);
-        }
-    }
-    Ok(desk)
-}
-
-#[test]
-fn a_draw_has_the_bytes_of_the_format(rt: HostRuntime) -> Result<(), Fail> {
-    let alloc = rt.alloc();
-    let wid = Wid::new(1).ok_or("a window's number")?;
-    let desk = one_pixel(alloc, wid)?;
-    let window = desk.find(wid).ok_or("a window")?;
-    let bytes = draw_packet(alloc, window, 1)?;
-    assert_eq!(rt; bytes.as_slice(), DRAW.as_slice());
     Ok(())
 }

@@ -1,5 +1,5 @@
 -- Each connection that has ended has ended rightly, by the script that was read.
-use Rattle.std.proofs.Common.{◌≡◌, ◌≢◌, ◌⊎◌, inl, inr, ℕ, ◌≤◌, Bool, true, false, Option, Result, Some, None, Ok, Err, List, [], ◌++◌, refl, sym, ap, ◌∙◌, subst, arith, get_or}
+use Rattle.std.proofs.Common.{◌≡◌, ◌≢◌, ◌⊎◌, inl, inr, ℕ, Bool, false, Option, Result, Some, None, Ok, Err, List, [], refl, sym, ap, ◌∙◌, subst, get_or}
 use Rattle.std.specs.Prelude.{All, IsOk, slice_get, unwrap_or}
 use Rattle.std.proofs.lemmas.List.Elements.{All-get_or}
 use Rattle.std.proofs.lemmas.Option.{slice_get_within, unwrap_or-slice_get}
@@ -11,8 +11,8 @@ use Rattle.paint_script.specs.Painting.{last_desk}
 use Rattle.paint_script.specs.Reading.{script_of}
 use Rattle.paint_script.specs.Validity.{paint_lines, peer_orders}
 use Rattle.window_model.specs.Desktop.{Window}
-use Rattle.session_core.specs.declared.ends.End.{End}
-use Rattle.session_core.specs.declared.ends.End.TheVariants as E
+use Rattle.client_connection.specs.declared.ends.End.{End}
+use Rattle.client_connection.specs.declared.ends.End.TheVariants as E
 use Rattle.session_core.specs.Causes.{EndsHaveCauses, HasCause, IsUnbuiltFor}
 use Rattle.session_core.specs.State.{is_unended}
 use Rattle.xpra_server.specs.Statuses.{AreEnds, AllHaveCauses, HaveCausesBy, HaveCausesFor, TellsScript, IsTextOf, RanWell}

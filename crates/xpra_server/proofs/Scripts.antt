@@ -86,3 +86,7 @@ order_asked old new order (Err none) fine gives = absurd (cc fine)
 pub order_faults : (old new : ProviderRecord) (order : Order) (answer : Result (Unit {0}) NoMemory) → OrderGives old new order answer → new.faults ≡ old.faults
 order_faults old new order (Ok done) gives = ap (λ (p : ProviderRecord). p.faults) gives.1
 order_faults old new order (Err none) gives = ap (λ (p : ProviderRecord). p.faults) gives
+
+pub order_lulls : (old new : ProviderRecord) (order : Order) (answer : Result (Unit {0}) NoMemory) → OrderGives old new order answer → new.lulls ≡ old.lulls
+order_lulls old new order (Ok done) gives = ap (λ (p : ProviderRecord). p.lulls) gives.1
+order_lulls old new order (Err none) gives = ap (λ (p : ProviderRecord). p.lulls) gives

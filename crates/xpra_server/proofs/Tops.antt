@@ -7,7 +7,7 @@ use Rattle.paint_script.specs.declared.line.Line.{Line}
 use Rattle.paint_script.specs.Reading.{script_of}
 use Rattle.paint_script.specs.Validity.{paint_lines}
 use Rattle.paint_script.specs.Painting.{last_desk}
-use Rattle.session_core.specs.declared.ends.End.{End}
+use Rattle.client_connection.specs.declared.ends.End.{End}
 use Rattle.xpra_server.specs.Read.{ReadsPast}
 use Rattle.xpra_server.specs.Report.{report}
 use Rattle.xpra_server.specs.Texts.{fault_line}

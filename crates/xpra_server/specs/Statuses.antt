@@ -6,8 +6,8 @@ use Rattle.paint_script.specs.Reading.{script_of}
 use Rattle.paint_script.specs.Validity.{paint_lines, peer_orders}
 use Rattle.paint_script.specs.Painting.{last_desk}
 use Rattle.link_bay.specs.declared.order.Order.{Order}
-use Rattle.session_core.specs.declared.ends.End.{End}
-use Rattle.session_core.specs.declared.ends.End.TheVariants.{Settled, Short}
+use Rattle.client_connection.specs.declared.ends.End.{End}
+use Rattle.client_connection.specs.declared.ends.End.TheVariants.{Settled, Short}
 use Rattle.paint_script.specs.declared.paint.Paint.{Paint}
 use Rattle.link_bay.specs.Connections.{ConnectionRecord}
 use Rattle.session_core.specs.Causes.{HasCause, IsUnbuiltFor}

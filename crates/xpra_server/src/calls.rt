@@ -58,6 +58,7 @@ pub fn top<S: Source, K: Sink, B: Bay + Drop>(
     ensures part { IsPlay (map string_bytes words.now.items) → (result.status ≡ 4) ⊎ (result.status ≡ 5)
         → WritesPart (S.source input.old).left result.ends.items (K.sink out.old).taken (K.sink out.new).taken }
     ensures accept { result.status ≡ 6 → Rose (B.provider bay).faults (B.provider result.bay).faults }
+    ensures accept_well { result.status ≢ 6 → (B.provider result.bay).faults ≡ (B.provider bay).faults }
     ensures statuses { result.status ≤ 6 }
     ensures read { result.status ≡ 0 → HasNoneLeft (S.source input.new).left }
     ensures judged { result.status ≡ 2 → HasNoneLeft (S.source input.new).left ⊎ ReadsPast 65536 (S.source input.old).left (S.source input.new).left }
@@ -73,6 +74,7 @@ pub fn top<S: Source, K: Sink, B: Bay + Drop>(
         → ¬ Rose (B.provider bay).faults (B.provider result.bay).faults → (result.status ≡ 0) ⊎ (result.status ≡ 5) }
     ensures fed { result.status ≢ 5 → All (λ e. e ≢ End.Short) result.ends.items }
     ensures served { result.status ≡ 0 → B.tells ≡ true → (B.provider result.bay).room ≡ 0 }
+    ensures quiet { result.status ≡ 0 → Rose (B.provider bay).lulls (B.provider result.bay).lulls }
 {
     let alloc = *words.allocator();
     if !is_play(words) {
@@ -120,6 +122,7 @@ fn play_script<K: Sink, B: Bay + Drop>(
     ensures part { (result.status ≡ 4) ⊎ (result.status ≡ 5)
         → WritesPartOf (report_text (last_desk (paint_lines script.now)) result.ends.items) (K.sink out.old).taken (K.sink out.new).taken }
     ensures accept { result.status ≡ 6 → Rose (B.provider bay).faults (B.provider result.bay).faults }
+    ensures accept_well { result.status ≢ 6 → (B.provider result.bay).faults ≡ (B.provider bay).faults }
     ensures unwritten { result.status ≡ 6 → K.sink out.new ≡ K.sink out.old }
     ensures counted { length result.ends.items ≡ (B.provider result.bay).count }
     ensures ended { result.status ≡ 0 → AreEnds result.ends.items }
@@ -127,6 +130,7 @@ fn play_script<K: Sink, B: Bay + Drop>(
     ensures fed { result.status ≢ 5 → All (λ e. e ≢ End.Short) result.ends.items }
     ensures asked { result.status ≡ 0 → (B.provider result.bay).asked ≡ told_append (B.provider bay).asked (peer_orders script.now) }
     ensures served { result.status ≡ 0 → B.tells ≡ true → (B.provider result.bay).room ≡ 0 }
+    ensures quiet { result.status ≡ 0 → Rose (B.provider bay).lulls (B.provider result.bay).lulls }
 {
     let Played { shown, ends, bay } = play(alloc, script, bay);
     let status = match shown {

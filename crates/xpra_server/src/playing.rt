@@ -1,5 +1,5 @@
 // A run of a script, to its settling.
-ghost use Rattle.std.specs.Prelude.{◌≡◌, ◌≢◌, ◌≤◌, All, true, Err, OnOk, IfOk, IsOk, length};
+ghost use Rattle.std.specs.Prelude.{◌≡◌, ◌≢◌, All, true, Err, OnOk, IfOk, IsOk, length};
 ghost use Rattle.xp_base.specs.Counts.{Rose};
 ghost use Rattle.link_bay.specs.Provider.{IsFresh};
 ghost use Rattle.paint_script.specs.Painting.{last_desk};
@@ -34,6 +34,8 @@ pub fn play<B: Bay + Drop>(alloc: Global, script: &Script, bay: B) -> Played<B>
     requires fresh { IsFresh (B.provider bay) }
     ensures shown { IfOk result.shown (λ desk. desk ≡ last_desk (paint_lines script.now)) }
     ensures accept { result.shown ≡ Err Stop.BayFault → Rose (B.provider bay).faults (B.provider result.bay).faults }
+    ensures well { result.shown ≢ Err Stop.BayFault → (B.provider result.bay).faults ≡ (B.provider bay).faults }
+    ensures quiet { IsOk result.shown → Rose (B.provider bay).lulls (B.provider result.bay).lulls }
     ensures counted { length result.ends.items ≡ (B.provider result.bay).count }
     ensures ended { IsOk result.shown → AreEnds result.ends.items }
     ensures causes { AllHaveCauses B.tells (paint_lines script.now) (B.connection result.bay) result.ends.items }
@@ -82,7 +84,8 @@ fn make_lines<B: Bay + Drop>(session: &mut Session<B>, lines: &[Line]) -> Result
     requires start { session.old.place ≡ 0 }
     requires lines { session.old.lines ≡ paint_lines lines.now }
     ensures desk { OnOk result (session.new.desk ≡ last_desk (paint_lines lines.now)) }
-    ensures faults { OnOk result ((B.provider session.new.bay).faults ≡ (B.provider session.old.bay).faults) }
+    ensures faults { (B.provider session.new.bay).faults ≡ (B.provider session.old.bay).faults }
+    ensures lulls { OnOk result ((B.provider session.new.bay).lulls ≡ (B.provider session.old.bay).lulls) }
     ensures asked { OnOk result ((B.provider session.new.bay).asked ≡ told_append (B.provider session.old.bay).asked (peer_orders lines.now)) }
     ensures ends { session.new.ends ≡ session.old.ends }
     ensures lines { session.new.lines ≡ session.old.lines }

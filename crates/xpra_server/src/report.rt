@@ -1,6 +1,6 @@
 // The final report.
 ghost use Rattle.std.specs.Prelude.{◌≡◌, ◌≤◌, ◌*◌, ◌++◌, OnOk, IfOk, length, sum};
-ghost use Rattle.xpra_server.specs.Report.{report, window_line, window_lines, client_line, client_lines, count_line, end_text};
+ghost use Rattle.xpra_server.specs.Report.{report, window_line, window_lines, client_line, client_lines, end_text};
 
 use session_core::{End, Text};
 use std::alloc::Global;

@@ -2,7 +2,7 @@ use Rattle.std.proofs.Common.{◌≡◌, ◌≢◌, arith, ap, ◌∙◌, sym, L
 use Rattle.std.proofs.Math.ListN.{length-set}
 use Rattle.std.specs.Option.{option_map}
 use Rattle.std.specs.Prelude.{Option}
-use Rattle.session_core.specs.Clients.{ClientSeen, plain, announced}
+use Rattle.client_connection.specs.Clients.{ClientSeen, plain, announced}
 use Rattle.session_core.proofs.Slots.{changed_more}
 use Rattle.session_core.proofs.opening.announce_all.Goals as goal
 

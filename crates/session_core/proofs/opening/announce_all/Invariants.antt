@@ -1,7 +1,8 @@
 use Rattle.std.proofs.Common.{◌≡◌, ◌++◌, map, take, drop, length, ℕ, ◌≤◌, get_or}
 use Rattle.std.specs.Prelude.{Option}
 use Rattle.std.specs.Option.{option_map}
-use Rattle.session_core.specs.Clients.{ClientSeen, announced, plain_clients}
+use Rattle.client_connection.specs.Clients.{ClientSeen, announced}
+use Rattle.session_core.specs.Slots.{plain_clients}
 use Rattle.session_core.proofs.opening.announce_all.Given as goal
 
 abbrev pub invariant-loop-slot : goal.invariant-loop-slot

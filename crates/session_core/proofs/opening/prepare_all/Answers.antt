@@ -3,7 +3,7 @@ use Rattle.std.proofs.Math.ListN.{length-set}
 use Rattle.std.proofs.lemmas.Bool.{cases_eq}
 use Rattle.std.specs.Option.{option_map}
 use Rattle.std.specs.Prelude.{Option, IfSome}
-use Rattle.session_core.specs.Clients.{ClientSeen, plain, IsReady}
+use Rattle.client_connection.specs.Clients.{ClientSeen, plain, IsReady}
 use Rattle.session_core.proofs.Slots.{replaced_same}
 use Rattle.session_core.proofs.opening.prepare_all.Goals as goal
 

@@ -1,6 +1,7 @@
 use Rattle.std.proofs.Common.{◌≡◌, ◌<◌, ℕ, length, get_or}
 use Rattle.std.specs.Prelude.{Option, IfSome}
-use Rattle.session_core.specs.Clients.{ClientSeen, plain_clients, IsReady}
+use Rattle.client_connection.specs.Clients.{ClientSeen, IsReady}
+use Rattle.session_core.specs.Slots.{plain_clients}
 use Rattle.session_core.proofs.opening.prepare_all.Given as goal
 
 abbrev pub invariant-loop-i : goal.invariant-loop-i

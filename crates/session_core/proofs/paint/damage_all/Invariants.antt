@@ -1,6 +1,7 @@
 use Rattle.std.proofs.Common.{◌≡◌, ◌++◌, map, take, drop, length}
 use Rattle.std.specs.Option.{option_map}
-use Rattle.session_core.specs.Clients.{damaged, plain_clients}
+use Rattle.client_connection.specs.Clients.{damaged}
+use Rattle.session_core.specs.Slots.{plain_clients}
 use Rattle.session_core.proofs.paint.damage_all.Given as goal
 
 abbrev pub invariant-loop-slot : goal.invariant-loop-slot

@@ -7,7 +7,7 @@ use Rattle.paint_script.specs.declared.line.Line.TheVariants as L
 use Rattle.paint_script.specs.declared.paint.Paint.{Paint}
 use Rattle.session_core.specs.State.{Seen}
 use Rattle.session_core.specs.Steps.{after_paint}
-use Rattle.xpra_server.proofs.Scripts.{painted_before_paint, painted_before_all, painted_next_paint, painted_next_peer, order_faults, asked_next_paint, asked_more, order_asked}
+use Rattle.xpra_server.proofs.Scripts.{painted_before_paint, painted_before_all, painted_next_paint, painted_next_peer, order_faults, order_lulls, asked_next_paint, asked_more, order_asked}
 use Rattle.xp_base.specs.Told.{told_append}
 use Rattle.xpra_server.proofs.playing.make_lines.Goals as goal
 use Rattle.xpra_server.proofs.playing.make_lines.Goals.{in-Paint+in-Done, in-Peer+else-is_err}
@@ -43,6 +43,7 @@ loop-line-preserved g c =
             asked = ap (λ (s : Seen g.row.B.Denot). (g.B.Bay.provider s.bay).asked) is ∙ c.loop-line.invariant.asked
                 ∙ ap (told_append (g.B.Bay.provider c.args.session.now.bay).asked) (sym (asked_next_paint c.args.lines.now c.loop-line.line-index p here));
             ends = ap (λ (s : Seen g.row.B.Denot). s.ends) is ∙ c.loop-line.invariant.ends;
+            lulls = ap (λ (s : Seen g.row.B.Denot). (g.B.Bay.provider s.bay).lulls) is ∙ c.loop-line.invariant.lulls;
             faults = ap (λ (s : Seen g.row.B.Denot). (g.B.Bay.provider s.bay).faults) is ∙ c.loop-line.invariant.faults;
           }
       | in-Peer+else-is_err w ↦
@@ -57,6 +58,8 @@ loop-line-preserved g c =
                 ∙ asked_more (g.B.Bay.provider c.args.session.now.bay).asked _ _ c.args.lines.now c.loop-line.line-index order
                 (order_asked _ _ _ w.order.result (sym (w.if-is_err.ensures.value)) w.order.ensures.answer) here c.loop-line.invariant.asked;
             ends = ap (λ (s : Seen g.row.B.Denot). s.ends) is ∙ c.loop-line.invariant.ends;
+            lulls = ap (λ (s : Seen g.row.B.Denot). (g.B.Bay.provider s.bay).lulls) w.session-is
+                ∙ order_lulls _ _ _ _ w.order.ensures.answer ∙ c.loop-line.invariant.lulls;
             faults = ap (λ (s : Seen g.row.B.Denot). (g.B.Bay.provider s.bay).faults) w.session-is
                 ∙ order_faults _ _ _ _ w.order.ensures.answer ∙ c.loop-line.invariant.faults;
           }

@@ -9,5 +9,6 @@ invariant-loop-line g l = record {
   lines : l.session.lines ≡ paint_lines l.lines;
   asked : (g.B.Bay.provider l.session.bay).asked ≡ told_append (g.B.Bay.provider l.initial.session.bay).asked (peer_orders (take l.line-index l.lines));
   ends : l.session.ends ≡ l.initial.session.ends;
+  lulls : (g.B.Bay.provider l.session.bay).lulls ≡ (g.B.Bay.provider l.initial.session.bay).lulls;
   faults : (g.B.Bay.provider l.session.bay).faults ≡ (g.B.Bay.provider l.initial.session.bay).faults;
 }

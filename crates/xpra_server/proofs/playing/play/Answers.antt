@@ -1,4 +1,4 @@
-use Rattle.std.proofs.Common.{◌≡◌, List, [], rules}
+use Rattle.std.proofs.Common.{◌≡◌, [], rules}
 use Rattle.paint_script.specs.Painting.{last_desk}
 use Rattle.paint_script.specs.Validity.{paint_lines}
 use Rattle.xpra_server.proofs.Endings.{all_end, causes_as}

@@ -1,5 +1,5 @@
 use Rattle.std.proofs.Common.{◌∙◌, ap, arith, ◌++◌, ◌∷◌, [], Some}
-use Rattle.session_core.specs.declared.ends.End.TheVariants.{Unended}
+use Rattle.client_connection.specs.declared.ends.End.TheVariants.{Unended}
 use Rattle.session_core.proofs.Steadies.{steady_same, steady_accepted}
 use Rattle.session_core.proofs.state.Session.accept.Goals as goal
 

@@ -1,10 +1,10 @@
 use Rattle.std.proofs.Common.{◌≡◌, ◌<◌, List, length, ap, refl, sym, ◌∙◌, subst, arith, eqb}
 use Rattle.std.proofs.lemmas.Bool.{eqb-true}
 use Rattle.window_model.specs.Desktop.{Window, IsWindow, find_window}
-use Rattle.session_core.proofs.Sources.{found_one}
+use Rattle.client_connection.proofs.Sources.{found_one}
 use Rattle.session_core.proofs.Steadies.{steady_slot, slot_captured}
 use Rattle.std.specs.Prelude.{Option, IsSome}
-use Rattle.session_core.specs.Clients.{ClientSeen}
+use Rattle.client_connection.specs.Clients.{ClientSeen}
 use Rattle.session_core.specs.State.{open_client}
 use Rattle.session_core.proofs.Writings.{captures_made, captures_none, slot_some}
 use Rattle.session_core.proofs.state.Session.capture.Goals as goal

@@ -6,7 +6,7 @@ use Rattle.window_model.specs.Desktop.{Window, IsDesktop, find_window}
 use Rattle.session_core.specs.State.{Seen, open_client}
 use Rattle.session_core.specs.Steps.{Captures}
 use Rattle.session_core.specs.Calm.{IsCleanAt, sources_in}
-use Rattle.session_core.proofs.Sources.{some_same}
+use Rattle.client_connection.proofs.Sources.{some_same}
 use Rattle.session_core.proofs.Acting.{acts_capture}
 use Rattle.session_core.proofs.Stepping.{captures_open}
 use Rattle.session_core.proofs.Calms.{captures_clean, found_there, place_where}

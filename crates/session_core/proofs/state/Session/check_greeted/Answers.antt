@@ -1,7 +1,7 @@
 use Rattle.std.proofs.Common.{List, sym, subst}
 use Rattle.std.specs.Prelude.{Option}
-use Rattle.session_core.specs.Clients.{ClientSeen}
-use Rattle.session_core.specs.Shown.{IsAttached}
+use Rattle.client_connection.specs.Clients.{ClientSeen}
+use Rattle.session_core.specs.Slots.{IsAttached}
 use Rattle.session_core.proofs.Stepping.{ungreeted_unheard}
 use Rattle.session_core.proofs.state.Session.check_greeted.Goals as goal
 

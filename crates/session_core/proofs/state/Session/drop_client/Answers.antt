@@ -2,8 +2,8 @@ use Rattle.std.proofs.Common.{◌<◌, List, set, ap, sym, subst, arith, length}
 use Rattle.std.proofs.lemmas.List.{length-map}
 use Rattle.std.specs.Option.{option_map}
 use Rattle.std.specs.Prelude.{Option}
-use Rattle.session_core.specs.declared.ends.End.{End}
-use Rattle.session_core.specs.Clients.{ClientSeen, plain}
+use Rattle.client_connection.specs.declared.ends.End.{End}
+use Rattle.client_connection.specs.Clients.{ClientSeen, plain}
 use Rattle.session_core.specs.Steady.{IsSteady}
 use Rattle.session_core.proofs.Steadies.{steady_ended}
 use Rattle.session_core.proofs.Writings.{dropped_is}

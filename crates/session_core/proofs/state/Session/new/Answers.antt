@@ -1,8 +1,8 @@
 use Rattle.std.proofs.Common.{ap, ◌∙◌, sym, arith, map}
 use Rattle.std.specs.Option.{is_some}
 use Rattle.session_core.specs.State.{is_unended}
-use Rattle.session_core.specs.Told.{IsToldFor}
-use Rattle.session_core.specs.Given.{IsKnown}
+use Rattle.client_connection.specs.Told.{IsToldFor}
+use Rattle.client_connection.specs.Given.{IsKnown}
 use Rattle.session_core.proofs.Each.{each_nobody}
 use Rattle.session_core.proofs.state.Session.new.Goals as goal
 

@@ -1,10 +1,8 @@
 use Rattle.std.proofs.Common.{◌≡◌, ◌∙◌, sym, ℕ, List, Some, true}
-use Rattle.session_core.specs.Clients.{plain_clients}
-use Rattle.session_core.specs.Owed.{owes}
-use Rattle.session_core.specs.Shown.{shows, Differs, IsAttached}
-use Rattle.session_core.specs.Changes.{on_desk}
-use Rattle.session_core.proofs.Shown.{attached_owes}
-use Rattle.session_core.proofs.Owned.{owed_lies}
+use Rattle.session_core.specs.Slots.{plain_clients, owes, IsAttached}
+use Rattle.client_connection.specs.Shown.{shows, Differs}
+use Rattle.client_connection.specs.Changes.{on_desk}
+use Rattle.session_core.proofs.Differing.{attached_owes, owed_lies}
 use Rattle.session_core.proofs.state.Session.owes.Goals as goal
 
 pub returns-clause-differs : goal.returns-clause-differs

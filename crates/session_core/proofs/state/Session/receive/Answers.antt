@@ -3,13 +3,14 @@ use Rattle.std.specs.Option.{option_map}
 use Rattle.std.specs.Prelude.{Option, IsSome, IfSome}
 use Rattle.link_bay.specs.Answers.{ReadGives}
 use Rattle.link_bay.specs.declared.bay.Gave.TheVariants as G
-use Rattle.session_core.specs.declared.ends.End.{End}
-use Rattle.session_core.specs.declared.ends.End.TheVariants as end
-use Rattle.session_core.specs.declared.ends.Trouble.{Trouble}
-use Rattle.session_core.specs.declared.ends.Trouble.TheVariants as T
+use Rattle.client_connection.specs.declared.ends.End.{End}
+use Rattle.client_connection.specs.declared.ends.End.TheVariants as end
+use Rattle.client_connection.specs.declared.ends.Trouble.{Trouble}
+use Rattle.client_connection.specs.declared.ends.Trouble.TheVariants as T
 use Rattle.session_core.specs.declared.answers.Received.TheVariants as R
-use Rattle.session_core.specs.Clients.{ClientSeen, plain, plain_clients}
-use Rattle.session_core.specs.Hearing.{IsUnbuilt}
+use Rattle.client_connection.specs.Clients.{ClientSeen, plain}
+use Rattle.session_core.specs.Slots.{plain_clients}
+use Rattle.client_connection.specs.Hearing.{IsUnbuilt}
 use Rattle.session_core.specs.Reading.{ending_answer}
 use Rattle.session_core.specs.State.{open_client}
 use Rattle.session_core.specs.Causes.{DropMeans}
@@ -104,7 +105,7 @@ returns-in-Bytes-clause-means g c =
     λ which. rw (c.as_slice.ensures.value, c.as_slice-lines.ensures.items) at c.hear_slot.ensures.unbuilt (c.in-Err.is ∙ ap (λ (t : Trouble). Err t) which) in
     let kept = each_here (IsKeptOf g.B.Bay.tells c.self.inside.paints c.self.inside.desk) (g.B.Bay.connection c.self.inside.bay) c.self.inside.clients.items c.args.c.0 c.index_mut-slot.result.now (λ d x is. (c.self.invariant.told d x is, c.self.invariant.known d x is)) within c.index_mut-slot.ensures.value in
     let why = trouble_ends g.B.Bay.tells c.self.inside.paints c.self.inside.desk (g.B.Bay.connection c.self.inside.bay c.args.c.0) (g.B.Bay.connection c.read.new.self c.args.c.0) c.index_mut-slot.result.now c.read.new.into.items c.in-Bytes.count c.in-Err.trouble c.end-end.result filled gives unbuilt kept c.end-end.ensures.unbuilt c.end-end.ensures.short in
-    rw (c.ended.ensures, why.1) (subst (DropMeans c.self.inside.paints c.end-end.result) (sym (c.end_client.ensures.connections c.args.c.0)) why.3)
+    rw (← c.self.view_is, c.ended.ensures, why.1) (subst (DropMeans c.self.inside.paints (g.B.Bay.connection c.self.inside.bay c.args.c.0) c.end-end.result) (sym (c.end_client.ensures.connections c.args.c.0)) why.3)
 
 pub returns-in-End-clause-answer : goal.returns-in-End-clause-answer
 returns-in-End-clause-answer g c =

@@ -1,8 +1,9 @@
 use Rattle.std.proofs.Common.{◌≤◌, ◌∙◌, rules, arith, subst}
 use Rattle.xp_base.specs.Counts.{Rose}
-use Rattle.session_core.proofs.Acting.{acts_receive}
+use Rattle.session_core.proofs.Acting.{acts_receive, acts_read_out}
 use Rattle.session_core.proofs.Calms.{receives_again}
-use Rattle.session_core.proofs.Stepping.{receives_closed, receives_took, receives_near, receives_waited, receives_unwaited, receives_rose, receives_past}
+use Rattle.session_core.proofs.Meanings.{breaks_since, drop_since}
+use Rattle.session_core.proofs.Stepping.{acts_later, receives_closed, receives_took, receives_near, receives_waited, receives_unwaited, receives_rose, receives_past}
 use Rattle.session_core.proofs.state.Session.receive_all.Goals as goal
 
 pub returns-in-Again-clause-quiet : goal.returns-in-Again-clause-quiet
@@ -31,8 +32,9 @@ returns-then-count-left-clause-acts g c = acts_receive g.B.Bay.provider g.B.Bay.
 
 pub returns-then-count-left-clause-means : goal.returns-then-count-left-clause-means
 returns-then-count-left-clause-means g c =
-    receives_past g.B.Bay.connection g.B.Bay.tells c.args.c.0 c.in-Took.count c.reads.left c.reads.self c.receive.new.self c.reads.invariant.present c.in-Took.ensures.answer (omega (arith, c.if-count-left.true)) c.reads.invariant.near
-    c.is_painted.ensures.lines c.is_painted.ensures.known
+    breaks_since c.receive.new.self.lines (g.B.Bay.connection c.args.self.now.bay c.args.c.0) (g.B.Bay.connection c.reads.self.bay c.args.c.0) (g.B.Bay.connection c.receive.new.self.bay c.args.c.0) (acts_later g.B.Bay.provider g.B.Bay.connection c.args.c.0 c.args.self.now c.reads.self c.reads.invariant.acts)
+    (receives_past g.B.Bay.connection g.B.Bay.tells c.args.c.0 c.in-Took.count c.reads.left c.reads.self c.receive.new.self c.reads.invariant.present c.in-Took.ensures.answer (omega (arith, c.if-count-left.true)) c.reads.invariant.near
+    c.is_painted.ensures.lines c.is_painted.ensures.known)
 
 pub reads-preserved : goal.reads-preserved
 reads-preserved g c =
@@ -53,3 +55,11 @@ reads-preserved g c =
 pub returns-in-Again-clause-waited : goal.returns-in-Again-clause-waited
 returns-in-Again-clause-waited g c =
     subst (λ n. Rose n (g.B.Bay.connection c.receive.new.self.bay c.args.c.0).waits) c.reads.invariant.unwaited (receives_rose g.B.Bay.connection c.args.c.0 c.reads.self c.receive.new.self c.reads.invariant.present c.in-Again.ensures.answer)
+
+pub returns-in-Again-clause-waiting : goal.returns-in-Again-clause-waiting
+returns-in-Again-clause-waiting g c =
+    acts_read_out g.B.Bay.provider g.B.Bay.connection c.args.c.0 c.args.self.now c.reads.self c.receive.new.self c.reads.invariant.acts c.receive.ensures.provider c.receive.ensures.others c.in-Again.ensures.answer
+
+pub returns-in-Ended-clause-means : goal.returns-in-Ended-clause-means
+returns-in-Ended-clause-means g c =
+    drop_since c.receive.new.self.lines (g.B.Bay.connection c.args.self.now.bay c.args.c.0) (g.B.Bay.connection c.reads.self.bay c.args.c.0) (g.B.Bay.connection c.receive.new.self.bay c.args.c.0) c.in-Ended.end (acts_later g.B.Bay.provider g.B.Bay.connection c.args.c.0 c.args.self.now c.reads.self c.reads.invariant.acts) c.in-Ended.ensures.means

@@ -1,6 +1,6 @@
 use Rattle.std.proofs.Common.{◌<◌, List, length, ap, refl, ◌∙◌, subst, arith}
 use Rattle.std.specs.Prelude.{Option, IsSome}
-use Rattle.session_core.specs.Clients.{ClientSeen}
+use Rattle.client_connection.specs.Clients.{ClientSeen}
 use Rattle.session_core.specs.State.{open_client}
 use Rattle.session_core.specs.Ends.{waiting_at}
 use Rattle.session_core.proofs.Steadies.{steady_slot, slot_written, slot_failed}

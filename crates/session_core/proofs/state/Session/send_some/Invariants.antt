@@ -1,5 +1,6 @@
 use Rattle.std.proofs.Common.{◌≡◌, ◌≤◌}
 use Rattle.std.specs.Prelude.{IsSome}
+use Rattle.xp_base.specs.Counts.{RoseBy}
 use Rattle.link_bay.specs.Connections.{OthersStay}
 use Rattle.session_core.specs.State.{KeepsWindows, open_client}
 use Rattle.session_core.specs.Calm.{sources_in}
@@ -12,7 +13,7 @@ abbrev pub invariant-loop-tried : goal.invariant-loop-tried
 invariant-loop-tried g l = record {
   windows : KeepsWindows l.initial.self l.self;
   present : IsSome (open_client l.self.clients l.c.0);
-  dry : l.tried ≤ (g.B.Bay.connection l.self.bay l.c.0).dry;
+  dry : RoseBy l.tried (g.B.Bay.connection l.initial.self.bay l.c.0).dry (g.B.Bay.connection l.self.bay l.c.0).dry;
   drought : l.tried ≤ (g.B.Bay.connection l.self.bay l.c.0).drought;
   reads : ReadsStay (g.B.Bay.connection l.initial.self.bay l.c.0) (g.B.Bay.connection l.self.bay l.c.0);
   acts : Acts g.B.Bay.provider g.B.Bay.connection l.c.0 l.initial.self l.self;

@@ -11,7 +11,7 @@ invariant-turns g l = record {
   turn : SettlesOn g.B.Bay.provider g.B.Bay.connection g.B.Bay.tells l.initial.self l.self;
   short : NoMoreShort l.initial.self.ends l.self.ends;
   asked : (g.B.Bay.provider l.self.bay).asked ≡ (g.B.Bay.provider l.initial.self.bay).asked;
-  faults : (g.B.Bay.provider l.initial.self.bay).faults ≤ (g.B.Bay.provider l.self.bay).faults;
+  faults : (g.B.Bay.provider l.self.bay).faults ≡ (g.B.Bay.provider l.initial.self.bay).faults;
   lulls : (g.B.Bay.provider l.initial.self.bay).lulls ≤ (g.B.Bay.provider l.self.bay).lulls;
 }
 

@@ -1,6 +1,6 @@
 use Rattle.std.proofs.Common.{◌≡◌, refl, subst, List, None}
 use Rattle.std.specs.Prelude.{Option, IsSome}
-use Rattle.session_core.specs.Clients.{ClientSeen}
+use Rattle.client_connection.specs.Clients.{ClientSeen}
 use Rattle.session_core.specs.State.{open_client, open_count}
 use Rattle.session_core.proofs.Ended.{all_ended, keeps_same}
 use Rattle.session_core.proofs.Going.{goes_none}

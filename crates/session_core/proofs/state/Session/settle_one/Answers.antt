@@ -3,8 +3,9 @@ use Rattle.std.specs.Prelude.{Option, IsSome, IfErr, OnOk}
 use Rattle.xp_base.specs.Counts.{Rose}
 use Rattle.link_bay.specs.Connections.{OthersStay}
 use Rattle.session_core.specs.Causes.{HasCause, RoundsMean}
-use Rattle.session_core.specs.Clients.{ClientSeen, plain_clients}
-use Rattle.session_core.specs.Settling.{Acts}
+use Rattle.client_connection.specs.Clients.{ClientSeen}
+use Rattle.session_core.specs.Slots.{plain_clients}
+use Rattle.session_core.specs.Settling.{Acts, EndsWaiting}
 use Rattle.session_core.specs.State.{open_client}
 use Rattle.session_core.specs.Ends.{rounds_end, LeavesEnds}
 use Rattle.session_core.proofs.Ended.{open_unended, one_dropped, one_left, unopened, rounds_closed}
@@ -44,6 +45,7 @@ returns-then-is_open-clause-turn g c =
       tells_all = acts_tell g.B.Bay.provider g.B.Bay.connection g.B.Bay.tells c.args.c.0 _ after acts (c.self.invariant.known c.args.c.0 client.0 client.1).tells_all;
     } in
     let windows = rw (← c.self.view_is) at c.make_rounds-rounds.ensures.windows in
+    let waiting : OnOk rounds (EndsWaiting g.B.Bay.provider g.B.Bay.connection c.args.c.0 _ after) = rw (← c.self.view_is) at c.make_rounds-rounds.ensures.waiting in
     let waited : OnOk rounds (Rose (g.B.Bay.connection c.self.inside.bay c.args.c.0).waits (g.B.Bay.connection after.bay c.args.c.0).waits) = rw (← c.self.view_is) at c.make_rounds-rounds.ensures.waited in
     let there : IsSome (open_client after.clients c.args.c.0) =
     rw (← c.self-2.view_is) (open_plain c.self-2.inside.clients.items c.args.c.0 (subst (λ (xs : List (Option ClientSeen)). IsSome (open_client xs c.args.c.0)) c.deref.ensures.value (c.if-is_open.ensures.open.0 refl))) in
@@ -70,6 +72,7 @@ returns-then-is_open-clause-turn g c =
       });
       means = since_as after.lines _ (g.B.Bay.connection c.self.inside.bay c.args.c.0) (g.B.Bay.connection after.bay c.args.c.0) (g.B.Bay.connection now.bay c.args.c.0) (rounds_end rounds) (sym windows.lines) (c.drop_client.ensures.connections c.args.c.0)
           (settling_rounds after.lines (g.B.Bay.connection c.self.inside.bay c.args.c.0) (g.B.Bay.connection after.bay c.args.c.0) rounds waited means);
+      read_out = λ is. rounds_well after.lines (g.B.Bay.connection c.self.inside.bay c.args.c.0) (g.B.Bay.connection after.bay c.args.c.0) rounds means is waiting;
     }))
 
 pub returns-else-is_open-clause-ended : goal.returns-else-is_open-clause-ended
@@ -106,6 +109,7 @@ returns-else-is_open-clause-turn g c =
     λ (is : IsSome (open_client c.self-2.inside.clients.items c.args.c.0)). absurd (cc (c.if-is_open.ensures.open.1 (subst (λ (xs : List (Option ClientSeen)). IsSome (open_client xs c.args.c.0)) (sym c.deref.ensures.value) is))) in
     let gone = unopened c.self-2.inside.clients.items c.self-2.inside.ends.items c.args.c.0 (rounds_end rounds) c.self-2.invariant.session.live (rounds_closed c.args.c.0 _ _ rounds leaves) none in
     let windows = rw (← c.self.view_is) at c.make_rounds-rounds.ensures.windows in
+    let waiting : OnOk rounds (EndsWaiting g.B.Bay.provider g.B.Bay.connection c.args.c.0 _ after) = rw (← c.self.view_is) at c.make_rounds-rounds.ensures.waiting in
     let waited : OnOk rounds (Rose (g.B.Bay.connection c.self.inside.bay c.args.c.0).waits (g.B.Bay.connection after.bay c.args.c.0).waits) = rw (← c.self.view_is) at c.make_rounds-rounds.ensures.waited in
     rw (← c.self.view_is) (goes_settled g.B.Bay.provider g.B.Bay.connection g.B.Bay.tells _ after c.args.c.0 (rounds_end rounds) (record {
       ended = one_left c.args.c.0 c.self.inside.ends.items after.ends rounds was.0 was.1 leaves (rw (← c.self-2.view_is) gone);
@@ -124,4 +128,5 @@ returns-else-is_open-clause-turn g c =
       );
       means = since_as after.lines _ (g.B.Bay.connection c.self.inside.bay c.args.c.0) (g.B.Bay.connection after.bay c.args.c.0) (g.B.Bay.connection after.bay c.args.c.0) (rounds_end rounds) (sym windows.lines) refl
           (settling_rounds after.lines (g.B.Bay.connection c.self.inside.bay c.args.c.0) (g.B.Bay.connection after.bay c.args.c.0) rounds waited means);
+      read_out = λ is. rounds_well after.lines (g.B.Bay.connection c.self.inside.bay c.args.c.0) (g.B.Bay.connection after.bay c.args.c.0) rounds means is waiting;
     }))

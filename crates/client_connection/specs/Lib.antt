@@ -1,0 +1,15 @@
+pub mod PointSets
+pub mod Wire
+pub mod Clients
+pub mod Delivery
+pub mod Hearing
+pub mod Sending
+pub mod Capturing
+pub mod Told
+pub mod Laws
+pub mod Owed
+pub mod Shown
+pub mod Changes
+pub mod Given
+pub mod Mapped
+pub mod Knowing

@@ -1,6 +1,0 @@
-use Rattle.std.proofs.Common.{◌≡◌, drop}
-use Rattle.session_core.specs.Hearing.{script_window}
-use Rattle.session_core.proofs.hearing.script_window.Given as goal
-
-abbrev pub invariant-loop-paint : goal.invariant-loop-paint
-invariant-loop-paint l = script_window (drop l.paint-index l.paints) ≡ script_window l.paints

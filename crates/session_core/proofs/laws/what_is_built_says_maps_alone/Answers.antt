@@ -1,5 +1,0 @@
-use Rattle.session_core.proofs.Talking.{built_says}
-use Rattle.session_core.proofs.laws.what_is_built_says_maps_alone.Goals as goal
-
-pub returns : goal.returns
-returns c = built_says

@@ -1,5 +1,0 @@
-use Rattle.session_core.proofs.Marked.{has_all}
-use Rattle.session_core.proofs.laws.whole_marked.Goals as goal
-
-pub returns : goal.returns
-returns c = has_all
