@@ -19,7 +19,8 @@ use Rattle.rgb_encoders.specs.Decoded.{decoded_at, decoded}
 use Rattle.packet_kinds.specs.declared.to_client.ToClient.{ToClient}
 use Rattle.packet_kinds.specs.declared.to_client.ToClient.TheVariants as T
 use Rattle.packet_kinds.specs.Effects.{survives, effect, without_window, on_top, resized_window, moved_window}
-use Rattle.packet_kinds.specs.Laws.{HasFields, HasBytes, EffectKeepsDesktop}
+use Rattle.packet_kinds.specs.Laws.{HasBytes, EffectKeepsDesktop}
+use Rattle.packet_kinds.specs.Fields.{IsInRange}
 use Rattle.packet_kinds.proofs.Windows.{same_after, draws, drawn_after, numbers_stay_distinct}
 
 -- each place of a list of bytes reads as a byte
@@ -98,11 +99,11 @@ all-on_top : (windows : List Window) (wid : ℕ) (o : Option Window) → find_wi
 all-on_top windows wid None e all = all-without windows wid all
 all-on_top windows wid (Some window) e all = All-push IsWindow (without_window windows wid) window (all-without windows wid all) (found_is windows wid window all e)
 
-all_after : (windows after : List Window) (m : ToClient) → HasFields m → HasBytes m → All IsWindow windows → effect windows m ≡ Some after → All IsWindow after
+all_after : (windows after : List Window) (m : ToClient) → IsInRange m → HasBytes m → All IsWindow windows → effect windows m ≡ Some after → All IsWindow after
 all_after windows after (T.Hello caps) fields bytes all e = subst (All IsWindow) (same_after _ after e) all
 all_after windows after (T.NewWindow wid x y w h) fields bytes all e =
     subst (All IsWindow) (same_after _ after e)
-    (all-new windows (fresh_window wid x y w h) (has_window windows wid) (IsWindow-fresh wid x y w h fields.0.first fields.0.last fields.1 fields.2 fields.3 fields.4) all)
+    (all-new windows (fresh_window wid x y w h) (has_window windows wid) (IsWindow-fresh wid x y w h fields.0.first (omega (arith, fields.0.last)) fields.1 fields.2 fields.3 fields.4) all)
 all_after windows after (T.LostWindow wid) fields bytes all e = subst (All IsWindow) (same_after _ after e) (all-without windows wid all)
 all_after windows after (T.WindowResized wid w h) fields bytes all e =
     subst (All IsWindow) (same_after _ after e) (all-changed windows wid (resized_window w h) (λ window is. IsWindow-resized window w h fields.1 fields.2 is) all)

@@ -25,7 +25,33 @@ pub record IsStride (stride : ℕ) : Type 0 where
 abbrev pub IsInteger : ℤ → Type 0
 IsInteger n = is_in_range n ≡ true
 
--- a packet of another name is none that is written
+-- a packet's numbers, places and sides are such as a window or a draw may have: so it is of each packet that is read
+abbrev pub IsInRange : ToClient → Type 0
+IsInRange (T.Hello caps) = Unit {0}
+IsInRange (T.NewWindow wid x y w h) = IsNumber wid × IsPlace x × IsPlace y × IsSide w × IsSide h
+IsInRange (T.LostWindow wid) = IsNumber wid
+IsInRange (T.WindowResized wid w h) = IsNumber wid × IsSide w × IsSide h
+IsInRange (T.WindowMoveResize wid x y w h) = IsNumber wid × IsPlace x × IsPlace y × IsSide w × IsSide h
+IsInRange (T.RaiseWindow wid) = IsNumber wid
+IsInRange (T.Draw wid x y w h coding bytes sequence stride) = IsNumber wid × IsSpan x w × IsSpan y h × IsStride stride
+IsInRange (T.PingEcho t) = Unit {0}
+IsInRange (T.Disconnect reason) = Unit {0}
+IsInRange T.Other = Unit {0}
+
+-- a packet has a name, and its further integers are of 64 bits
+abbrev pub IsNamed : ToClient → Type 0
+IsNamed (T.Hello caps) = Unit {0}
+IsNamed (T.NewWindow wid x y w h) = Unit {0}
+IsNamed (T.LostWindow wid) = Unit {0}
+IsNamed (T.WindowResized wid w h) = Unit {0}
+IsNamed (T.WindowMoveResize wid x y w h) = Unit {0}
+IsNamed (T.RaiseWindow wid) = Unit {0}
+IsNamed (T.Draw wid x y w h coding bytes sequence stride) = IsInteger sequence
+IsNamed (T.PingEcho t) = IsInteger t
+IsNamed (T.Disconnect reason) = Unit {0}
+IsNamed T.Other = ⊥
+
+-- what a packet needs to be written: both
 abbrev pub HasFields : ToClient → Type 0
 HasFields (T.Hello caps) = Unit {0}
 HasFields (T.NewWindow wid x y w h) = IsNumber wid × IsPlace x × IsPlace y × IsSide w × IsSide h

@@ -1,17 +1,18 @@
 -- What the definitions of messages and pictures come to.
-use Rattle.std.specs.Prelude.{ℕ, ◌-◌, ◌*◌, ◌^◌, ◌≡◌, ◌≢◌, ◌<◌, ◌≤◌, ◌↔◌, ℤ, true, Option, Some, None, Ok, List, [], ◌++◌, length, map, fold, AllPairs, if◌then◌else◌}
+use Rattle.std.specs.Prelude.{ℕ, ◌-◌, ◌*◌, ◌≡◌, ◌≢◌, ◌<◌, ◌↔◌, ℤ, true, Option, Some, None, Ok, List, [], ◌++◌, length, map, fold, AllPairs, if◌then◌else◌}
 use Rattle.std.specs.List.{AllByRecursion}
 use Rattle.std.specs.Option.{option_and_then}
-use Rattle.xp_base.specs.Points.{Rectangle, IsRectangle, is_in, is_within}
+use Rattle.xp_base.specs.Points.{Rectangle, is_in, is_within}
 use Rattle.xp_base.specs.Grid.{number_at}
 use Rattle.xp_base.specs.declared.coding.Coding.{Coding}
 use Rattle.bencode_values.specs.declared.value.Value.{Value}
-use Rattle.window_model.specs.Desktop.{Window, IsPlace, IsSide, IsDesktop, find_window, fresh_window}
+use Rattle.window_model.specs.Desktop.{Window, IsDesktop, find_window, fresh_window}
 use Rattle.rgb_encoders.specs.Decoded.{decoded_at, decoded, HoldsPixels}
 use Rattle.packet_frames.specs.Stream.{packets_of}
 use Rattle.packet_kinds.specs.declared.to_client.ToClient.{ToClient}
 use Rattle.packet_kinds.specs.declared.to_client.ToClient.TheVariants as T
 use Rattle.packet_kinds.specs.ToShapes.{to_client}
+use Rattle.packet_kinds.specs.Fields.{IsInRange, IsNamed, HasFields}
 use Rattle.packet_kinds.specs.Effects.{survives, resized_window, holds_pixels, drawn_window, effect, effect_on}
 use Rattle.packet_kinds.specs.Picture.{picture}
 use Rattle.packet_kinds.specs.Written.{IsMessage, Show}
@@ -44,41 +45,22 @@ AreDistinct windows = AllPairs (λ lower upper. lower.wid ≢ upper.wid) windows
 abbrev pub NumbersStayDistinct : Type 0
 NumbersStayDistinct = (windows after : List Window) (m : ToClient) → AreDistinct windows → effect windows m ≡ Some after → AreDistinct after
 
--- a window's number
-pub record IsNumber (wid : ℕ) : Type 0 where
-  pub first : 1 ≤ wid
-  pub last : wid < 2 ^ 16
+-- a packet that is read has its numbers in their ranges; so, where it has a name and its further integers are of 64 bits, it has
+-- what it needs to be written again
+abbrev pub ReadIsInRange : Type 0
+ReadIsInRange = (v : Value) (m : ToClient) → to_client v ≡ Ok m → IsInRange m
 
--- bytes from one row of a draw to the next
-pub record IsStride (stride : ℕ) : Type 0 where
-  pub some : 1 ≤ stride
-  pub most : stride ≤ 67108864
-
--- a packet's numbers, places and sides are such as a window or a draw may have
-abbrev pub HasFields : ToClient → Type 0
-HasFields (T.Hello caps) = Unit {0}
-HasFields (T.NewWindow wid x y w h) = IsNumber wid × IsPlace x × IsPlace y × IsSide w × IsSide h
-HasFields (T.LostWindow wid) = IsNumber wid
-HasFields (T.WindowResized wid w h) = IsNumber wid × IsSide w × IsSide h
-HasFields (T.WindowMoveResize wid x y w h) = IsNumber wid × IsPlace x × IsPlace y × IsSide w × IsSide h
-HasFields (T.RaiseWindow wid) = IsNumber wid
-HasFields (T.Draw wid x y w h coding bytes sequence stride) = IsNumber wid × IsRectangle (record { x = x; y = y; w = w; h = h }) × IsStride stride
-HasFields (T.PingEcho t) = Unit {0}
-HasFields (T.Disconnect reason) = Unit {0}
-HasFields T.Other = Unit {0}
-
--- a packet that is read has them
 abbrev pub ReadHasFields : Type 0
-ReadHasFields = (v : Value) (m : ToClient) → to_client v ≡ Ok m → HasFields m
+ReadHasFields = (v : Value) (m : ToClient) → to_client v ≡ Ok m → IsNamed m → HasFields m
 
 -- what a draw carries is bytes
 abbrev pub HasBytes : ToClient → Type 0
 HasBytes (T.Draw wid x y w h coding bytes sequence stride) = AllByRecursion (λ byte. byte < 256) bytes
 HasBytes m = Unit {0}
 
--- where its fields are such and its bytes are bytes, a packet keeps a desktop
+-- where its numbers are in their ranges and its bytes are bytes, a packet keeps a desktop
 abbrev pub EffectKeepsDesktop : Type 0
-EffectKeepsDesktop = (windows after : List Window) (m : ToClient) → HasFields m → HasBytes m → IsDesktop windows → effect windows m ≡ Some after → IsDesktop after
+EffectKeepsDesktop = (windows after : List Window) (m : ToClient) → IsInRange m → HasBytes m → IsDesktop windows → effect windows m ≡ Some after → IsDesktop after
 
 -- a point of a drawn window shows the colour that was decoded for it in the rectangle, and what it showed elsewhere
 abbrev pub DrawShows : Type 0

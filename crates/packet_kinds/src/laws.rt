@@ -2,7 +2,7 @@
 ghost use Rattle.std.specs.Prelude.{◌≡◌, ℕ, None, []};
 ghost use Rattle.packet_kinds.specs.Picture.{picture};
 ghost use Rattle.packet_kinds.specs.Written.{Show};
-ghost use Rattle.packet_kinds.specs.Laws.{MessageFollows, PartShowsNothing, MessageHasBytes, OneWindowChanges, NumbersStayDistinct, ReadHasFields, EffectKeepsDesktop, DrawShows, DrawHoldsPixels, NewWindowShows, ResizeShows, PictureStops, PictureFolds};
+ghost use Rattle.packet_kinds.specs.Laws.{MessageFollows, PartShowsNothing, MessageHasBytes, OneWindowChanges, NumbersStayDistinct, ReadHasFields, ReadIsInRange, EffectKeepsDesktop, DrawShows, DrawHoldsPixels, NewWindowShows, ResizeShows, PictureStops, PictureFolds};
 
 /// No bytes show no window.
 pub fn nothing_is_shown_at_first()
@@ -35,12 +35,14 @@ pub fn numbers_stay_distinct()
     ensures { NumbersStayDistinct }
 {}
 
-/// The numbers, places and sides of a packet that is read are such as a window or a draw may have.
+/// The numbers, places and sides of a packet that is read are such as a window or a draw may have; so a packet that
+/// was read may be written again, where it has a name and its further integers are of 64 bits.
 pub fn a_read_packet_has_fields()
-    ensures { ReadHasFields }
+    ensures range { ReadIsInRange }
+    ensures fields { ReadHasFields }
 {}
 
-/// Where its fields are such, and a draw's bytes are bytes, a packet keeps a desktop.
+/// Where its numbers are such, and a draw's bytes are bytes, a packet keeps a desktop.
 pub fn an_effect_keeps_a_desktop()
     ensures { EffectKeepsDesktop }
 {}

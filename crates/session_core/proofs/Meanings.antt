@@ -58,6 +58,10 @@ trouble_ends tells lines desk was now slot bytes n T.NoMemory e some gives unbui
     subst (λ (d : End). EndsSlot was now lines desk (option_map plain slot) (ending_answer d) × (receive_ends (ending_answer d) ≡ Some d) × (is_unended d ≡ false) × DropMeans lines was d now) (sym (short refl))
     (why_short was now lines desk slot bytes n some gives, refl, refl, tt)
 
+-- its last read had to wait, and no byte was sent after it
+abbrev pub HasWaited : ConnectionRecord → Type 0
+HasWaited r = (r.unheard ≡ 0) × (r.waits ≢ 0)
+
 -- no count of a connection fell
 pub record CountsLater (was now : ConnectionRecord) : Type 0 where
   pub faults : was.faults ≤ now.faults
@@ -93,7 +97,7 @@ later_wrote was now piece W.Failed gives = rw gives.1 (record { faults = gives.0
 later_wrote was now piece W.NoMemory gives = later_same was now gives
 
 -- what rose since a later time rose since an earlier one
-rose_since : (was mid now : ℕ) → was ≤ mid → Rose mid now → Rose was now
+pub rose_since : (was mid now : ℕ) → was ≤ mid → Rose mid now → Rose was now
 rose_since was mid now first rose = record { later = omega (arith, first, rose.later); risen = omega (arith, first, rose.risen) }
 
 rose_by_since : (was mid now : ℕ) → was ≤ mid → RoseBy 1000 mid now → RoseBy 1000 was now

@@ -15,7 +15,7 @@ use Rattle.session_core.specs.Calm.{AreClean, IsCalm}
 use Rattle.client_connection.specs.declared.ends.End.{End}
 use Rattle.client_connection.specs.declared.ends.End.TheVariants as E
 use Rattle.client_connection.specs.declared.ends.End.TheVariants.{Settled}
-use Rattle.session_core.specs.Causes.{IsSettled, HasWaited, EndMeans, RoundsMean, SettlingMeans, HasCause}
+use Rattle.session_core.specs.Causes.{IsSettled, EndMeans, RoundsMean, SettlingMeans, HasCause}
 use Rattle.session_core.specs.Ends.{rounds_end}
 use Rattle.session_core.specs.State.{open_client}
 use Rattle.client_connection.specs.Clients.{ClientSeen, front_rest}
@@ -32,7 +32,7 @@ use Rattle.client_connection.specs.Told.{IsTold, IsToldFor, layout}
 use Rattle.client_connection.specs.Wire.{client_limit}
 use Rattle.client_connection.proofs.Givens.{has_hello}
 use Rattle.client_connection.proofs.Knowns.{marked}
-use Rattle.session_core.proofs.Meanings.{rose_some, breaks_off}
+use Rattle.session_core.proofs.Meanings.{HasWaited, rose_some, breaks_off}
 use Rattle.client_connection.proofs.Owing.{any_found, sources_distinct}
 use Rattle.client_connection.proofs.Shown.{owes_what_differs, will_show, desk_sized}
 use Rattle.client_connection.proofs.Sources.{source_where}

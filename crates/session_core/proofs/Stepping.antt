@@ -22,19 +22,19 @@ use Rattle.client_connection.specs.declared.answers.Sent.{Sent}
 use Rattle.client_connection.specs.declared.answers.Sent.TheVariants as S
 use Rattle.client_connection.specs.declared.ends.End.{End}
 use Rattle.client_connection.specs.declared.ends.End.TheVariants as E
-use Rattle.session_core.specs.Causes.{BreaksOffSince, DropMeans, GaveNoHello, GaveUnbuilt, HasWaited, ReachesFlood, ReadsStay, RoundsMean}
+use Rattle.session_core.specs.Causes.{BreaksOffSince, DropMeans, GaveNoHello, GaveUnbuilt, ReachesFlood, ReadsStay, RoundsMean}
 use Rattle.client_connection.specs.Clients.{ClientSeen}
 use Rattle.session_core.specs.Slots.{plain_clients, IsAttached, AreKnown}
 use Rattle.client_connection.specs.Given.{TellsAll, IsGivenFor}
 use Rattle.session_core.specs.Reading.{Reads, ReadEnds, EndsReading}
 use Rattle.client_connection.specs.Sending.{Writes, WriteEnds, offered}
-use Rattle.session_core.specs.Settling.{ActsOnce, ActsThrough, Acts}
+use Rattle.session_core.specs.Settling.{ActsOnce, ActsThrough, Acts, EndsWaiting}
 use Rattle.session_core.specs.State.{Seen, open_client}
 use Rattle.session_core.specs.Steps.{Receives, ReceivesOne, Captures, CapturesOne, Sends, SendsOne, with_client, with_end, receive_ends, send_ends}
 use Rattle.session_core.proofs.Calms.{now_open}
 use Rattle.client_connection.proofs.Givens.{built_size, no_hello}
 use Rattle.client_connection.proofs.Knowns.{some_append}
-use Rattle.session_core.proofs.Meanings.{rose_some, CountsLater, later_same, later_on, later_read, later_wrote, breaks_since}
+use Rattle.session_core.proofs.Meanings.{HasWaited, rose_some, rose_since, CountsLater, later_same, later_on, later_read, later_wrote, breaks_since}
 use Rattle.client_connection.proofs.Talking.{script_geometry}
 
 -- the client of a connection that is open
@@ -78,12 +78,7 @@ receives_waited connection k old new some receives =
       (ap (λ (r : ConnectionRecord). r.unheard) one.2.1.0.2, rose_some (connection old.bay k).waits (connection new.bay k).waits one.2.1.0.1),
     )
 
--- a read that gave bytes did not wait, and one that gave none did
-pub receives_unwaited : {B : Type 0} (connection : B → ℕ → ConnectionRecord) (k n : ℕ) (old new : Seen B) → IsSome (open_client old.clients k) → Receives connection k old (R.Took n) new → (connection new.bay k).waits ≡ (connection old.bay k).waits
-receives_unwaited connection k n old new some receives =
-    let reads = (receives_open connection k old new (R.Took n) some receives).2.1 in
-    ap (λ (r : ConnectionRecord). r.waits) reads.1.5
-
+-- a read that gave none had to wait
 pub receives_rose : {B : Type 0} (connection : B → ℕ → ConnectionRecord) (k : ℕ) (old new : Seen B) → IsSome (open_client old.clients k) → Receives connection k old R.Again new → Rose (connection old.bay k).waits (connection new.bay k).waits
 receives_rose connection k old new some receives = (receives_open connection k old new R.Again some receives).2.1.0.1
 
@@ -289,6 +284,24 @@ later_through provider connection k (next ∷ through) old new acts =
 
 pub acts_later : {B : Type 0} (provider : B → ProviderRecord) (connection : B → ℕ → ConnectionRecord) (k : ℕ) (old new : Seen B) → Acts provider connection k old new → CountsLater (connection old.bay k) (connection new.bay k)
 acts_later provider connection k old new acts = later_through provider connection k acts.0 old new acts.1
+
+-- where the last act is a read that had to wait, the connection has been read out, and had to wait in these acts
+pub waiting_waited : {B : Type 0} (provider : B → ProviderRecord) (connection : B → ℕ → ConnectionRecord) (k : ℕ) (old new : Seen B) → EndsWaiting provider connection k old new
+    → HasWaited (connection new.bay k) × Rose (connection old.bay k).waits (connection new.bay k).waits
+waiting_waited {B} provider connection k old new waits = (
+  (receives_waited connection k before new open_before waits.3).1,
+  rose_since (connection old.bay k).waits (connection before.bay k).waits (connection new.bay k).waits (acts_later provider connection k old before waits.1).waits (receives_rose connection k before new open_before waits.3),
+)
+  where
+    before : Seen B
+    before = waits.0
+
+    go : (o : Option ClientSeen) → MatchOption o ((R.Again ≡ R.Closed) × (new ≡ before)) (λ c. ReceivesOne k (connection before.bay k) (connection new.bay k) before c R.Again new) → IsSome o
+    go None receives = absurd (cc receives.0)
+    go (Some c) receives = refl
+
+    open_before : IsSome (open_client before.clients k)
+    open_before = go (open_client before.clients k) waits.3
 
 -- a client that has not said its whole hello when a read had to wait
 plain_attached : (clients : List (Option ClientSeen)) (k : ℕ) → IsAttached (plain_clients clients) k → IsAttached clients k

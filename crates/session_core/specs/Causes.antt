@@ -61,10 +61,6 @@ IsUnbuiltSince lines was r = BreaksOffSince lines was r ⊎ (Rose was.waits r.wa
 abbrev pub ReadsStay : ConnectionRecord → ConnectionRecord → Type 0
 ReadsStay was now = (now.given ≡ was.given) × (now.waits ≡ was.waits)
 
--- its last read had to wait, and no byte was sent after it
-abbrev pub HasWaited : ConnectionRecord → Type 0
-HasWaited r = (r.unheard ≡ 0) × (r.waits ≢ 0)
-
 -- with so many bytes more it will have given as many as may be read
 abbrev pub ReachesFlood : ℕ → Option (List ℕ) → Type 0
 ReachesFlood budget None = Unit {0}

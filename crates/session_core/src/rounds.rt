@@ -1,6 +1,5 @@
 // What settles one connection: rounds of reading, capturing and writing.
 ghost use Rattle.std.specs.Prelude.{◌≡◌, ◌≤◌, ◌↔◌, IsSome, IsTrue, IfOk, IfErr, OnOk, Ok, false};
-ghost use Rattle.xp_base.specs.Counts.{Rose};
 ghost use Rattle.link_bay.specs.Connections.{OthersStay};
 ghost use Rattle.session_core.specs.Slots.{IsAttached as IsAttachedIn};
 
@@ -24,7 +23,7 @@ impl<B: Bay + Drop> Session<B> {
     ghost use Rattle.session_core.specs.Ends.{LeavesEnds, waiting_at, WritesLess};
     ghost use Rattle.session_core.specs.Slots.{IsAttached};
     ghost use Rattle.session_core.specs.Calm.{AreClean, IsCalm, WaitsForNothing, sources_in};
-    ghost use Rattle.session_core.specs.Causes.{DropMeans, GaveNoHello, HasWaited, ReadsStay, ReachesFlood, RoundsMean};
+    ghost use Rattle.session_core.specs.Causes.{DropMeans, GaveNoHello, ReadsStay, ReachesFlood, RoundsMean};
     ghost use Rattle.session_core.specs.Settling.{Acts, EndsWaiting};
 
     /// Reads, then captures, writes and reads again, until there was nothing to read after all was written.
@@ -32,8 +31,6 @@ impl<B: Bay + Drop> Session<B> {
         requires open { IsSome (open_client self.old.clients c.0) }
         ensures windows { KeepsWindows self.old self.new }
         ensures calm { OnOk result (IsCalm self.new.desk (open_client self.new.clients c.0)) }
-        ensures heard { OnOk result (HasWaited (B.connection self.new.bay c.0)) }
-        ensures waited { OnOk result (Rose (B.connection self.old.bay c.0).waits (B.connection self.new.bay c.0).waits) }
         ensures waiting { OnOk result (EndsWaiting B.provider B.connection c.0 self.old self.new) }
         ensures means { IfErr result (λ e. RoundsMean self.new.lines (B.connection self.old.bay c.0) e (B.connection self.new.bay c.0)) }
         ensures ends { LeavesEnds c.0 self.old.ends result self.new.ends }
@@ -63,8 +60,6 @@ impl<B: Bay + Drop> Session<B> {
         ensures less { IfOk result (λ left. left ≤ budget) }
         ensures near { IfOk result (λ left. ReachesFlood left (B.connection self.new.bay c.0).given) }
         ensures quiet { IfOk result (λ left. left ≡ budget → self.new.clients ≡ self.old.clients) }
-        ensures heard { OnOk result (HasWaited (B.connection self.new.bay c.0)) }
-        ensures waited { OnOk result (Rose (B.connection self.old.bay c.0).waits (B.connection self.new.bay c.0).waits) }
         ensures waiting { OnOk result (EndsWaiting B.provider B.connection c.0 self.old self.new) }
         ensures means { IfErr result (λ e. DropMeans self.new.lines (B.connection self.old.bay c.0) e (B.connection self.new.bay c.0)) }
         ensures acts { Acts B.provider B.connection c.0 self.old self.new }

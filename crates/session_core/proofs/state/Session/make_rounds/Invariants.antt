@@ -1,4 +1,4 @@
-use Rattle.std.proofs.Common.{◌≡◌, ◌≤◌}
+use Rattle.std.proofs.Common.{◌≡◌}
 use Rattle.std.specs.Prelude.{IsSome}
 use Rattle.link_bay.specs.Connections.{OthersStay}
 use Rattle.session_core.specs.Causes.{ReachesFlood}
@@ -11,7 +11,6 @@ invariant-rounds g l = record {
   windows : KeepsWindows l.initial.self l.self;
   present : IsSome (open_client l.self.clients l.c.0);
   near : ReachesFlood l.left (g.B.Bay.connection l.self.bay l.c.0).given;
-  later : (g.B.Bay.connection l.initial.self.bay l.c.0).waits ≤ (g.B.Bay.connection l.self.bay l.c.0).waits;
   acts : Acts g.B.Bay.provider g.B.Bay.connection l.c.0 l.initial.self l.self;
   ends : l.self.ends ≡ l.initial.self.ends;
   others : OthersStay (g.B.Bay.connection l.initial.self.bay) (g.B.Bay.connection l.self.bay) l.c.0;

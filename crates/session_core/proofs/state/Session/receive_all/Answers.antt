@@ -1,9 +1,8 @@
-use Rattle.std.proofs.Common.{◌≤◌, ◌∙◌, rules, arith, subst}
-use Rattle.xp_base.specs.Counts.{Rose}
+use Rattle.std.proofs.Common.{◌≤◌, ◌∙◌, rules, arith}
 use Rattle.session_core.proofs.Acting.{acts_receive, acts_read_out}
 use Rattle.session_core.proofs.Calms.{receives_again}
 use Rattle.session_core.proofs.Meanings.{breaks_since, drop_since}
-use Rattle.session_core.proofs.Stepping.{acts_later, receives_closed, receives_took, receives_near, receives_waited, receives_unwaited, receives_rose, receives_past}
+use Rattle.session_core.proofs.Stepping.{acts_later, receives_closed, receives_took, receives_near, receives_waited, receives_past}
 use Rattle.session_core.proofs.state.Session.receive_all.Goals as goal
 
 pub returns-in-Again-clause-quiet : goal.returns-in-Again-clause-quiet
@@ -11,9 +10,6 @@ returns-in-Again-clause-quiet g c = λ same. (receives_again g.B.Bay.connection 
 
 pub returns-in-Again-clause-open : goal.returns-in-Again-clause-open
 returns-in-Again-clause-open g c = (receives_waited g.B.Bay.connection c.args.c.0 c.reads.self c.receive.new.self c.reads.invariant.present c.in-Again.ensures.answer).0
-
-pub returns-in-Again-clause-heard : goal.returns-in-Again-clause-heard
-returns-in-Again-clause-heard g c = (receives_waited g.B.Bay.connection c.args.c.0 c.reads.self c.receive.new.self c.reads.invariant.present c.in-Again.ensures.answer).1
 
 pub returns-in-Again-clause-acts : goal.returns-in-Again-clause-acts
 returns-in-Again-clause-acts g c = acts_receive g.B.Bay.provider g.B.Bay.connection c.args.c.0 _ c.reads.self c.receive.new.self c.receive.result c.reads.invariant.acts c.receive.ensures.provider c.receive.ensures.others c.receive.ensures.answer
@@ -43,7 +39,6 @@ reads-preserved g c =
       windows = search (rules);
       present = receives_took g.B.Bay.connection c.args.c.0 c.in-Took.count c.reads.self c.receive.new.self c.reads.invariant.present c.in-Took.ensures.answer;
       near = receives_near g.B.Bay.connection c.args.c.0 c.in-Took.count c.reads.left c.reads.self c.receive.new.self c.reads.invariant.present c.in-Took.ensures.answer low c.reads.invariant.near;
-      unwaited = receives_unwaited g.B.Bay.connection c.args.c.0 c.in-Took.count c.reads.self c.receive.new.self c.reads.invariant.present c.in-Took.ensures.answer ∙ c.reads.invariant.unwaited;
       acts = acts_receive g.B.Bay.provider g.B.Bay.connection c.args.c.0 _ c.reads.self c.receive.new.self c.receive.result c.reads.invariant.acts c.receive.ensures.provider c.receive.ensures.others c.receive.ensures.answer;
       ends = search (rules);
       quiet = search (rules);
@@ -51,10 +46,6 @@ reads-preserved g c =
       others = search (rules);
       provider = search (rules);
     }
-
-pub returns-in-Again-clause-waited : goal.returns-in-Again-clause-waited
-returns-in-Again-clause-waited g c =
-    subst (λ n. Rose n (g.B.Bay.connection c.receive.new.self.bay c.args.c.0).waits) c.reads.invariant.unwaited (receives_rose g.B.Bay.connection c.args.c.0 c.reads.self c.receive.new.self c.reads.invariant.present c.in-Again.ensures.answer)
 
 pub returns-in-Again-clause-waiting : goal.returns-in-Again-clause-waiting
 returns-in-Again-clause-waiting g c =

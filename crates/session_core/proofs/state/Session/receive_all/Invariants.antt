@@ -11,7 +11,6 @@ invariant-reads g l = record {
   windows : KeepsWindows l.initial.self l.self;
   present : IsSome (open_client l.self.clients l.c.0);
   near : ReachesFlood l.left (g.B.Bay.connection l.self.bay l.c.0).given;
-  unwaited : (g.B.Bay.connection l.self.bay l.c.0).waits ≡ (g.B.Bay.connection l.initial.self.bay l.c.0).waits;
   acts : Acts g.B.Bay.provider g.B.Bay.connection l.c.0 l.initial.self l.self;
   ends : l.self.ends ≡ l.initial.self.ends;
   quiet : l.left ≡ l.budget → l.self.clients ≡ l.initial.self.clients;

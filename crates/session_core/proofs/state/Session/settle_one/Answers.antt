@@ -8,12 +8,13 @@ use Rattle.session_core.specs.Slots.{plain_clients}
 use Rattle.session_core.specs.Settling.{Acts, EndsWaiting}
 use Rattle.session_core.specs.State.{open_client}
 use Rattle.session_core.specs.Ends.{rounds_end, LeavesEnds}
+use Rattle.session_core.proofs.Meanings.{HasWaited}
 use Rattle.session_core.proofs.Ended.{open_unended, one_dropped, one_left, unopened, rounds_closed}
 use Rattle.session_core.proofs.Going.{goes_settled}
 use Rattle.session_core.proofs.Lives.{unplain, open_plain}
 use Rattle.session_core.proofs.Settled.{calm_settled, calm_mapped, rounds_mean, settling_rounds, since_as, rounds_well, ok_both, right_as, attached_open, not_there}
 use Rattle.session_core.proofs.Calms.{ok_then}
-use Rattle.session_core.proofs.Stepping.{the_client, acts_tell}
+use Rattle.session_core.proofs.Stepping.{the_client, acts_tell, waiting_waited}
 use Rattle.session_core.proofs.state.Session.settle_one.Goals as goal
 
 pub returns-then-is_open-clause-ended : goal.returns-then-is_open-clause-ended
@@ -37,16 +38,18 @@ returns-then-is_open-clause-turn g c =
     let client = the_client (open_client (plain_clients c.self.inside.clients.items) c.args.c.0) (rw (← c.self.view_is) at c.requires.open) in
     let acts : Acts g.B.Bay.provider g.B.Bay.connection c.args.c.0 _ after = rw (← c.self.view_is) at c.make_rounds-rounds.ensures.acts in
     let others : OthersStay (g.B.Bay.connection c.self.inside.bay) (g.B.Bay.connection after.bay) c.args.c.0 = rw (← c.self.view_is) at c.make_rounds-rounds.ensures.others in
+    let waiting : OnOk rounds (EndsWaiting g.B.Bay.provider g.B.Bay.connection c.args.c.0 _ after) = rw (← c.self.view_is) at c.make_rounds-rounds.ensures.waiting in
+    let both = ok_then rounds (waiting_waited g.B.Bay.provider g.B.Bay.connection c.args.c.0 _ after) waiting in
+    let heard : OnOk rounds (HasWaited (g.B.Bay.connection after.bay c.args.c.0)) = ok_then rounds (λ w. w.0) both in
+    let waited : OnOk rounds (Rose (g.B.Bay.connection c.self.inside.bay c.args.c.0).waits (g.B.Bay.connection after.bay c.args.c.0).waits) = ok_then rounds (λ w. w.1) both in
     let means : IfErr rounds (λ e. RoundsMean after.lines (g.B.Bay.connection c.self.inside.bay c.args.c.0) e (g.B.Bay.connection after.bay c.args.c.0)) = rw (← c.self.view_is) at c.make_rounds-rounds.ensures.means in
     let right : HasCause g.B.Bay.tells after.lines after.desk (rounds_end rounds) (g.B.Bay.connection after.bay c.args.c.0) = record {
       means = rounds_mean after.lines after.desk (g.B.Bay.connection c.self.inside.bay c.args.c.0) (g.B.Bay.connection after.bay c.args.c.0) rounds
           (ok_both rounds (calm_settled (g.B.Bay.connection after.bay) g.B.Bay.tells after.lines after.desk after.clients c.args.c.0 c.is_painted.ensures.desktop c.is_painted.ensures.lines c.is_painted.ensures.told c.is_painted.ensures.known)
-          c.make_rounds-rounds.ensures.calm c.make_rounds-rounds.ensures.heard) means;
+          c.make_rounds-rounds.ensures.calm heard) means;
       tells_all = acts_tell g.B.Bay.provider g.B.Bay.connection g.B.Bay.tells c.args.c.0 _ after acts (c.self.invariant.known c.args.c.0 client.0 client.1).tells_all;
     } in
     let windows = rw (← c.self.view_is) at c.make_rounds-rounds.ensures.windows in
-    let waiting : OnOk rounds (EndsWaiting g.B.Bay.provider g.B.Bay.connection c.args.c.0 _ after) = rw (← c.self.view_is) at c.make_rounds-rounds.ensures.waiting in
-    let waited : OnOk rounds (Rose (g.B.Bay.connection c.self.inside.bay c.args.c.0).waits (g.B.Bay.connection after.bay c.args.c.0).waits) = rw (← c.self.view_is) at c.make_rounds-rounds.ensures.waited in
     let there : IsSome (open_client after.clients c.args.c.0) =
     rw (← c.self-2.view_is) (open_plain c.self-2.inside.clients.items c.args.c.0 (subst (λ (xs : List (Option ClientSeen)). IsSome (open_client xs c.args.c.0)) c.deref.ensures.value (c.if-is_open.ensures.open.0 refl))) in
     let now = c.drop_client.new.self in
@@ -98,19 +101,21 @@ returns-else-is_open-clause-turn g c =
     let client = the_client (open_client (plain_clients c.self.inside.clients.items) c.args.c.0) (rw (← c.self.view_is) at c.requires.open) in
     let acts : Acts g.B.Bay.provider g.B.Bay.connection c.args.c.0 _ after = rw (← c.self.view_is) at c.make_rounds-rounds.ensures.acts in
     let others : OthersStay (g.B.Bay.connection c.self.inside.bay) (g.B.Bay.connection after.bay) c.args.c.0 = rw (← c.self.view_is) at c.make_rounds-rounds.ensures.others in
+    let waiting : OnOk rounds (EndsWaiting g.B.Bay.provider g.B.Bay.connection c.args.c.0 _ after) = rw (← c.self.view_is) at c.make_rounds-rounds.ensures.waiting in
+    let both = ok_then rounds (waiting_waited g.B.Bay.provider g.B.Bay.connection c.args.c.0 _ after) waiting in
+    let heard : OnOk rounds (HasWaited (g.B.Bay.connection after.bay c.args.c.0)) = ok_then rounds (λ w. w.0) both in
+    let waited : OnOk rounds (Rose (g.B.Bay.connection c.self.inside.bay c.args.c.0).waits (g.B.Bay.connection after.bay c.args.c.0).waits) = ok_then rounds (λ w. w.1) both in
     let means : IfErr rounds (λ e. RoundsMean after.lines (g.B.Bay.connection c.self.inside.bay c.args.c.0) e (g.B.Bay.connection after.bay c.args.c.0)) = rw (← c.self.view_is) at c.make_rounds-rounds.ensures.means in
     let right : HasCause g.B.Bay.tells after.lines after.desk (rounds_end rounds) (g.B.Bay.connection after.bay c.args.c.0) = record {
       means = rounds_mean after.lines after.desk (g.B.Bay.connection c.self.inside.bay c.args.c.0) (g.B.Bay.connection after.bay c.args.c.0) rounds
           (ok_both rounds (calm_settled (g.B.Bay.connection after.bay) g.B.Bay.tells after.lines after.desk after.clients c.args.c.0 c.is_painted.ensures.desktop c.is_painted.ensures.lines c.is_painted.ensures.told c.is_painted.ensures.known)
-          c.make_rounds-rounds.ensures.calm c.make_rounds-rounds.ensures.heard) means;
+          c.make_rounds-rounds.ensures.calm heard) means;
       tells_all = acts_tell g.B.Bay.provider g.B.Bay.connection g.B.Bay.tells c.args.c.0 _ after acts (c.self.invariant.known c.args.c.0 client.0 client.1).tells_all;
     } in
     let none : IsSome (open_client c.self-2.inside.clients.items c.args.c.0) → ⊥ =
     λ (is : IsSome (open_client c.self-2.inside.clients.items c.args.c.0)). absurd (cc (c.if-is_open.ensures.open.1 (subst (λ (xs : List (Option ClientSeen)). IsSome (open_client xs c.args.c.0)) (sym c.deref.ensures.value) is))) in
     let gone = unopened c.self-2.inside.clients.items c.self-2.inside.ends.items c.args.c.0 (rounds_end rounds) c.self-2.invariant.session.live (rounds_closed c.args.c.0 _ _ rounds leaves) none in
     let windows = rw (← c.self.view_is) at c.make_rounds-rounds.ensures.windows in
-    let waiting : OnOk rounds (EndsWaiting g.B.Bay.provider g.B.Bay.connection c.args.c.0 _ after) = rw (← c.self.view_is) at c.make_rounds-rounds.ensures.waiting in
-    let waited : OnOk rounds (Rose (g.B.Bay.connection c.self.inside.bay c.args.c.0).waits (g.B.Bay.connection after.bay c.args.c.0).waits) = rw (← c.self.view_is) at c.make_rounds-rounds.ensures.waited in
     rw (← c.self.view_is) (goes_settled g.B.Bay.provider g.B.Bay.connection g.B.Bay.tells _ after c.args.c.0 (rounds_end rounds) (record {
       ended = one_left c.args.c.0 c.self.inside.ends.items after.ends rounds was.0 was.1 leaves (rw (← c.self-2.view_is) gone);
       cause = right;
