@@ -39,6 +39,11 @@ got_here [] (suc n) y x is = absurd (cc is)
 got_here (z ∷ xs) zero y x is = sym (some_same y x is)
 got_here (z ∷ xs) (suc n) y x is = got_here xs n y x is
 
+pub got_put : {A : Type 0} (xs : List A) (n : ℕ) (y : A) → n < length xs → slice_get (set xs n y) n ≡ Some y
+got_put [] n y within = absurd (omega (arith, within))
+got_put (x ∷ xs) zero y within = refl
+got_put (x ∷ xs) (suc n) y within = got_put xs n y (omega (arith, within))
+
 got_more : {A : Type 0} (xs : List A) (k : ℕ) (y x : A) → slice_get (xs ++ y ∷ []) k ≡ Some x → (slice_get xs k ≡ Some x) ⊎ (x ≡ y)
 got_more [] zero y x is = inr (sym (some_same y x is))
 got_more [] (suc k) y x is = absurd (cc is)

@@ -1,6 +1,6 @@
 -- What settling does to a session: whoever comes is accepted, and for one connection after another reads, captures and writes
 -- are made, and then it ends. So nothing is drawn that a capture did not make.
-use Rattle.std.specs.Prelude.{ℕ, ◌<◌, ◌≤◌, ◌≡◌, ◌≢◌, ◌⊎◌, Bool, true, false, IsSome, Option, Some, None, List, [], ◌∷◌}
+use Rattle.std.specs.Prelude.{ℕ, ◌<◌, ◌≤◌, ◌≡◌, ◌≢◌, ◌⊎◌, Bool, true, false, IsSome, Option, Some, None, List, [], ◌∷◌, slice_get}
 use Rattle.link_bay.specs.Connections.{ConnectionRecord, OthersStay, AllStay}
 use Rattle.link_bay.specs.Provider.{ProviderRecord}
 use Rattle.window_model.specs.Desktop.{Window}
@@ -57,9 +57,9 @@ pub record Closes {B : Type 0} (provider : B → ProviderRecord) (connection : B
   pub connections : AllStay (connection old.bay) (connection new.bay)
   pub provider_stays : provider new.bay ≡ provider old.bay
 
--- a connection ends: in its acts, or it is closed after them
+-- a connection ends so: in its acts, and then this is its end by its number, or it is closed after them
 abbrev pub EndsIn : {B : Type 0} → (B → ProviderRecord) → (B → ℕ → ConnectionRecord) → ℕ → End → Seen B → Seen B → Type 0
-EndsIn provider connection k ended old new = ((open_client new.clients k ≡ None) × (ended ≢ Settled) × (new ≡ old)) ⊎ Closes provider connection k ended old new
+EndsIn provider connection k ended old new = ((open_client new.clients k ≡ None) × (ended ≢ Settled) × (slice_get new.ends k ≡ Some ended) × (new ≡ old)) ⊎ Closes provider connection k ended old new
 
 -- Acts are made for the open connection of least number until it ends, with a cause that came in them. Where it ends `Settled`
 -- the last of them is a read that had to wait.

@@ -1,5 +1,6 @@
 use Rattle.std.proofs.Common.{inl, inr, refl, ap, sym, ◌∙◌, subst, set, List}
-use Rattle.std.specs.Prelude.{Option, IsSome, IfErr, OnOk}
+use Rattle.client_connection.specs.declared.ends.End.{End}
+use Rattle.std.specs.Prelude.{Option, IsSome, IfErr, OnOk, slice_get}
 use Rattle.xp_base.specs.Counts.{Rose}
 use Rattle.link_bay.specs.Connections.{OthersStay}
 use Rattle.session_core.specs.Causes.{HasCause, RoundsMean}
@@ -9,9 +10,10 @@ use Rattle.session_core.specs.Settling.{Acts, EndsWaiting}
 use Rattle.session_core.specs.State.{open_client}
 use Rattle.session_core.specs.Ends.{rounds_end, LeavesEnds}
 use Rattle.session_core.proofs.Meanings.{HasWaited}
-use Rattle.session_core.proofs.Ended.{open_unended, one_dropped, one_left, unopened, rounds_closed}
+use Rattle.session_core.proofs.Ended.{open_unended, one_dropped, one_left, left_changed, unopened, rounds_closed}
 use Rattle.session_core.proofs.Going.{goes_settled}
 use Rattle.session_core.proofs.Lives.{unplain, open_plain}
+use Rattle.session_core.proofs.Rightly.{got_put}
 use Rattle.session_core.proofs.Settled.{calm_settled, calm_mapped, rounds_mean, settling_rounds, since_as, rounds_well, ok_both, right_as, attached_open, not_there}
 use Rattle.session_core.proofs.Calms.{ok_then}
 use Rattle.session_core.proofs.Stepping.{the_client, acts_tell, waiting_waited}
@@ -129,6 +131,7 @@ returns-else-is_open-clause-turn g c =
         rw (← c.self-2.view_is) (not_there _ (λ is. none (unplain c.self-2.inside.clients.items c.args.c.0 is))),
         λ is. none (unplain c.self-2.inside.clients.items c.args.c.0 (rw (← c.self-2.view_is) at (rounds_well after.lines (g.B.Bay.connection c.self.inside.bay c.args.c.0) (g.B.Bay.connection after.bay c.args.c.0) rounds means is
             (ok_then rounds (λ calm. attached_open (open_client after.clients c.args.c.0) calm.attached) c.make_rounds-rounds.ensures.calm)))),
+        ap (λ (es : List End). slice_get es c.args.c.0) (left_changed c.args.c.0 c.self.inside.ends.items after.ends rounds was.1 leaves (rw (← c.self-2.view_is) gone)) ∙ got_put c.self.inside.ends.items c.args.c.0 (rounds_end rounds) was.0,
         refl,
       );
       means = since_as after.lines _ (g.B.Bay.connection c.self.inside.bay c.args.c.0) (g.B.Bay.connection after.bay c.args.c.0) (g.B.Bay.connection after.bay c.args.c.0) (rounds_end rounds) (sym windows.lines) refl
