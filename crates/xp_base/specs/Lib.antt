@@ -8,3 +8,4 @@ pub mod Streams
 pub mod Memory
 pub mod Answers
 pub mod Adapters
+pub mod Clocks
