@@ -8,6 +8,6 @@ pub mod Marks
 pub mod Point
 pub mod Kept
 pub mod Changes
+pub mod Invariant
 pub mod Numbers
 pub mod Laws
-pub mod Invariant
