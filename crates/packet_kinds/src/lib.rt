@@ -12,6 +12,7 @@ mod heard;
 mod items_in;
 mod items_out;
 mod laws;
+mod replies;
 mod to_client;
 mod to_reading;
 mod to_values;
@@ -28,9 +29,13 @@ pub use heard::{
 };
 pub use laws::{
     a_draw_holds_its_pixels, a_draw_shows, a_message_follows, a_message_has_bytes,
-    a_new_window_shows, a_part_shows_nothing, a_picture_folds, a_picture_stops,
-    a_read_packet_has_fields, a_resize_shows, an_effect_keeps_a_desktop, nothing_is_shown_at_first,
-    numbers_stay_distinct, one_window_changes,
+    a_new_window_shows, a_part_shows_nothing, a_picture_folds, a_picture_is_a_desktop,
+    a_picture_stops, a_read_packet_has_fields, a_resize_shows, an_effect_keeps_a_desktop,
+    nothing_is_shown_at_first, numbers_stay_distinct, one_window_changes,
+};
+pub use replies::{
+    a_message_is_answered, a_packet_has_an_effect_by_its_bytes, an_answer_may_be_written,
+    nothing_is_answered_at_first, replies_go_packet_by_packet, replies_only_go_on,
 };
 pub use to_client::ToClient;
 pub use to_reading::read_to_client;
