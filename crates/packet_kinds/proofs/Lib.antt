@@ -8,6 +8,7 @@ mod Examples
 pub mod Answering
 pub mod FromSizes
 pub mod FromWritten
+pub mod Given
 pub mod Items
 pub mod Pictured
 pub mod Replying

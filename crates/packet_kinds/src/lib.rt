@@ -24,8 +24,9 @@ pub use fault::{KindFault, TalkFault};
 pub use from_client::FromClient;
 pub use from_reading::read_from_client;
 pub use heard::{
-    a_talk_goes_packet_by_packet, a_written_message_is_heard, more_bytes_only_say_more,
-    nothing_is_heard_behind_a_fault, nothing_is_said_at_first,
+    a_talk_follows_a_framer, a_talk_goes_packet_by_packet, a_written_message_is_heard,
+    more_bytes_only_say_more, nothing_is_heard_behind_a_fault, nothing_is_said_at_first,
+    what_is_said_is_what_is_read,
 };
 pub use laws::{
     a_draw_holds_its_pixels, a_draw_shows, a_message_follows, a_message_has_bytes,
