@@ -10,4 +10,5 @@ pub mod Reading
 pub mod Samples
 pub mod Streams
 pub mod Taking
+pub mod Texts
 pub mod Writing

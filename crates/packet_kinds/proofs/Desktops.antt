@@ -10,6 +10,7 @@ use Rattle.std.proofs.lemmas.List.FromFn.{get_or-map-range_with_len, length-map-
 use Rattle.xp_base.specs.declared.coding.Coding.{Coding}
 use Rattle.xp_base.specs.declared.coding.Coding.TheVariants.{Exact, Lossy}
 use Rattle.xp_base.specs.Grid.{place_of}
+use Rattle.xp_base.specs.Points.{survives}
 use Rattle.window_model.specs.Desktop.{Window, IsWindow, IsPlace, IsSide, find_window, has_window, fresh_window, changed_window}
 use Rattle.window_model.proofs.Drawings.{IsColour, IsColour-get_or}
 use Rattle.window_model.proofs.Windows.{IsWindow-fresh, IsWindow-placed}
@@ -18,7 +19,7 @@ use Rattle.rgb_encoders.specs.PixelBytes.{colour_at}
 use Rattle.rgb_encoders.specs.Decoded.{decoded_at, decoded}
 use Rattle.packet_kinds.specs.declared.to_client.ToClient.{ToClient}
 use Rattle.packet_kinds.specs.declared.to_client.ToClient.TheVariants as T
-use Rattle.packet_kinds.specs.Effects.{survives, effect, without_window, on_top, resized_window, moved_window}
+use Rattle.packet_kinds.specs.Effects.{effect, without_window, on_top, resized_window, moved_window}
 use Rattle.packet_kinds.specs.Laws.{HasBytes, EffectKeepsDesktop}
 use Rattle.packet_kinds.specs.Fields.{IsInRange}
 use Rattle.packet_kinds.proofs.Windows.{same_after, draws, drawn_after, numbers_stay_distinct}

@@ -3,13 +3,13 @@ use Rattle.std.proofs.Common.{length, leb, eqb, eq-eqb, ◌≡◌, ℕ, ◌-◌,
 use Rattle.std.proofs.lemmas.Bool.{and_parts, and_from, le-leb}
 use Rattle.std.proofs.lemmas.Bool.Decides.{nat_tests}
 use Rattle.std.proofs.lemmas.List.FromFn.{get_or-map-range_with_len}
-use Rattle.xp_base.specs.Points.{is_in, is_within}
+use Rattle.xp_base.specs.Points.{is_in, is_within, survives}
 use Rattle.xp_base.specs.Grid.{number_at, place_of}
 use Rattle.window_model.proofs.Points.{number_at-inside, place_below, place_parts, Some-cond, cond_same, blank_shows_lem, placed_shows_lem}
 use Rattle.rgb_encoders.specs.PixelBytes.{pixel_size}
 use Rattle.rgb_encoders.specs.Decoded.{decoded_at, decoded}
 use Rattle.rgb_encoders.proofs.Points.{length-decoded, number_at-decoded}
-use Rattle.packet_kinds.specs.Effects.{survives, resized_window}
+use Rattle.packet_kinds.specs.Effects.{resized_window}
 use Rattle.packet_kinds.specs.Laws.{DrawShows, DrawHoldsPixels, NewWindowShows, ResizeShows}
 use Rattle.packet_kinds.proofs.Desktops.{length-resized}
 
@@ -33,7 +33,7 @@ new_window_shows wid x y w h a b within = blank_shows_lem w h a b within
 
 -- a point that survives was in the window
 survives_within : (w0 h0 w h x y : ℕ) → survives w0 h0 w h x y ≡ true → is_within w0 h0 x y ≡ true
-survives_within w0 h0 w h x y e = absurd (let f : false ≡ true = e in cc)
+survives_within w0 h0 w h x y e = (and_parts (is_within w0 h0 x y) (is_within w h x y) e).0
 
 pub resize_shows : ResizeShows
 resize_shows window w h x y sized within =

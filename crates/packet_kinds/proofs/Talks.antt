@@ -112,7 +112,7 @@ heard_on : (fault : Option Fault) (xs ys : List Packet) → (more : List Said) �
 heard_on fault [] ys = ((heard fault ys).said, refl)
 heard_on fault (x ∷ xs) ys = said_on x.place (from_client x.value) (heard None xs) (heard fault (xs ++ ys)) (heard_on fault xs ys)
 
-continues_packets : (fault : Option Fault) (xs ys : List Packet) → Continues (talk_of None xs) (talk_of fault (xs ++ ys))
+pub continues_packets : (fault : Option Fault) (xs ys : List Packet) → Continues (talk_of None xs) (talk_of fault (xs ++ ys))
 continues_packets fault [] ys = record { first = λ some. absurd (some refl); more = (talk_of fault ys).said; said = refl }
 continues_packets fault (x ∷ xs) ys = let on = heard_on fault xs ys in record { first = λ some. refl; more = on.0; said = on.1 }
 

@@ -1,6 +1,6 @@
 -- What the server's packets do to the windows that a client shows, from bottom to top.
-use Rattle.std.specs.Prelude.{ℕ, ◌*◌, ◌/◌, ◌%◌, ◌==◌, Bool, false, not, ◌&&◌, nat_le, nat_eq, ℤ, if◌then◌else◌, Option, Some, None, List, [], ◌∷◌, ◌++◌, length, filter, slice_index}
-use Rattle.xp_base.specs.Points.{Rectangle}
+use Rattle.std.specs.Prelude.{ℕ, ◌*◌, ◌/◌, ◌%◌, ◌==◌, Bool, not, ◌&&◌, nat_le, nat_eq, ℤ, if◌then◌else◌, Option, Some, None, List, [], ◌∷◌, ◌++◌, length, filter, slice_index}
+use Rattle.xp_base.specs.Points.{Rectangle, survives}
 use Rattle.xp_base.specs.Grid.{place_of}
 use Rattle.xp_base.specs.declared.coding.Coding.{Coding}
 use Rattle.window_model.specs.Drawing.{tabulated, placed}
@@ -9,10 +9,6 @@ use Rattle.rgb_encoders.specs.PixelBytes.{pixel_size}
 use Rattle.rgb_encoders.specs.Decoded.{decoded}
 use Rattle.packet_kinds.specs.declared.to_client.ToClient.{ToClient}
 use Rattle.packet_kinds.specs.declared.to_client.ToClient.TheVariants as T
-
--- which points keep their number when the client's window goes from w0 by h0 to w by h: none, in this version
-abbrev pub survives : ℕ → ℕ → ℕ → ℕ → ℕ → ℕ → Bool
-survives w0 h0 w h x y = false
 
 -- a window of another size: what survives keeps its number, and all else is 0
 abbrev pub resized_window : ℕ → ℕ → Window → Window

@@ -12,3 +12,5 @@ pub mod Effects
 pub mod Picture
 pub mod Written
 pub mod Laws
+pub mod Replies
+pub mod ReplyLaws
