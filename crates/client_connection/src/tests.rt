@@ -1,8 +1,8 @@
 use super::*;
 use crate::messages::{draw_packet, new_window_packet, server_hello_packet};
 use crate::wire::map_window_packet;
+use first_script::Paint;
 use link_bay::{Accept, Bay, EXACT_HELLO, Kind, Name, OneBay, Order};
-use paint_script::Paint;
 use std::alloc::Global;
 use std::test::Fail;
 use window_model::Desk;

@@ -1,6 +1,6 @@
 use super::*;
+use first_script::{Paints, ScriptRead, read_script};
 use link_bay::{Kind, Name, OneBay, Order};
-use paint_script::{Paints, ScriptRead, read_script};
 use std::alloc::Global;
 use std::test::Fail;
 use xp_base::{Conn, Wid};

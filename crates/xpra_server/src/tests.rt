@@ -1,7 +1,7 @@
 use crate::calls::{Outcome, top};
 use crate::closing_bay::ClosingBay;
+use first_script::{Script, ScriptRead, read_script};
 use link_bay::{Kind, MuteBay, Name, OneBay, Order, PassingBay};
-use paint_script::{Script, ScriptRead, read_script};
 use session_core::{Accepted, End, Session};
 use std::alloc::Global;
 use std::test::Fail;
