@@ -198,6 +198,9 @@ module _ {A : Type 0} (key : A → ℕ) where
   keys-map f keeps [] = refl
   keys-map f keeps (item ∷ items) = rw (keeps item, keys-map f keeps items) refl
 
+  pub keys-pushed : (items : List A) (new : A) → map key (keyed_push items new) ≡ map key items ++ key new ∷ []
+  keys-pushed items new = map_push key items new
+
   pub keys-changed : (items : List A) (k : ℕ) (change : A → A) → ((item : A) → key (change item) ≡ key item) → map key (keyed_change key items k change) ≡ map key items
   keys-changed items k change keeps = keys-map (changed_at k change) (changed_key k change keeps) items
 
@@ -285,6 +288,31 @@ module _ {A : Type 0} (key : A → ℕ) where
             ∙ sym (get_or-map (changed_at k change) items j e e there)
       ])
 
+  -- where none has the key, a change changes nothing
+  changed_none : (items : List A) (k : ℕ) (change : A → A) → ((j : ℕ) (d : A) → j < length items → key (get_or items j d) ≢ k) → keyed_change key items k change ≡ items
+  changed_none [] k change apart = refl
+  changed_none (item ∷ items) k change apart =
+      let first = apart zero item (omega arith) in
+      let test : eqb (key item) k ≡ false = grind (arith, nat_tests, first) in
+      rw test (ap (λ rest. item ∷ rest) (changed_none items k change (λ j d within. apart (suc j) d (omega arith))))
+
+  -- two changes that make the same of the item found make the same list
+  pub alike-changed : (items : List A) (k : ℕ) (item : A) (one two : A → A) → HasDistinctKeys key items → keyed_find key items k ≡ Some item → one item ≡ two item
+      → keyed_change key items k one ≡ keyed_change key items k two
+  alike-changed [] k item one two apart found same = refl
+  alike-changed (first ∷ items) k item one two apart found same = elim (cases_eq (key first) k) [
+    | inl here ↦
+        let is : first ≡ item = grind (arith, nat_tests, here, found) in
+        let test : eqb (key first) k ≡ true = grind (arith, nat_tests, here) in
+        let others : (j : ℕ) (d : A) → j < length items → key (get_or items j d) ≢ k = λ j d within equal. apart zero (suc j) d (omega arith) (omega arith) (here ∙ sym equal) in
+        rw test (ap (λ z. z ∷ keyed_change key items k one) (ap one is ∙ same ∙ ap two (sym is))
+        ∙ ap (λ rest. two first ∷ rest) (changed_none items k one others ∙ sym (changed_none items k two others)))
+    | inr other ↦
+        let test : eqb (key first) k ≡ false = grind (arith, nat_tests, other) in
+        let later : keyed_find key items k ≡ Some item = grind (arith, nat_tests, other, found) in
+        rw test (ap (λ rest. first ∷ rest) (alike-changed items k item one two (λ i j d before within. apart (suc i) (suc j) d (omega arith) (omega arith)) later same))
+  ]
+
   -- where none has the key, nothing is taken away
   pub removed_none : (items : List A) (k : ℕ) → ((j : ℕ) (d : A) → j < length items → key (get_or items j d) ≢ k) → keyed_remove key items k ≡ items
   removed_none [] k apart = refl
@@ -325,7 +353,7 @@ module _ {A : Type 0} (key : A → ℕ) where
       ∙ ap (keyed_push_some (keyed_remove key items k)) (sym (found_in_place items k i found ∙ slice_get-get_or items i d within))
 
 pub keyed_finds_lem : (A : Type 0) → KeyedFinds A
-keyed_finds_lem A = record { found = find-found; pushed = find-pushed; changed = find-changed; replaced = find-replaced; removed = find-removed; moved = find-moved }
+keyed_finds_lem A = record { found = find-found; pushed = find-pushed; changed = find-changed; replaced = find-replaced; removed = find-removed; moved = find-moved; alike = alike-changed }
 
 pub keyed_keeps_lem : (A : Type 0) → KeyedKeeps A
 keyed_keeps_lem A = record {
@@ -338,7 +366,7 @@ keyed_keeps_lem A = record {
 
 pub keyed_orders_lem : (A : Type 0) → KeyedOrders A
 keyed_orders_lem A = record {
-  pushed = λ key items new. map_push key items new;
+  pushed = keys-pushed;
   changed = keys-changed;
   replaced = keys-replaced;
   removed = keys-removed;

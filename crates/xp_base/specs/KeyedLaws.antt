@@ -15,6 +15,8 @@ pub record KeyedFinds (A : Type 0) : Type 0 where
   pub removed : (key : A → ℕ) (items : List A) (k other : ℕ)
       → keyed_find key (keyed_remove key items k) other ≡ (if other == k then None else keyed_find key items other)
   pub moved : (key : A → ℕ) (items : List A) (k other : ℕ) → keyed_find key (keyed_last key items k) other ≡ keyed_find key items other
+  pub alike : (key : A → ℕ) (items : List A) (k : ℕ) (item : A) (one two : A → A) → HasDistinctKeys key items → keyed_find key items k ≡ Some item
+      → one item ≡ two item → keyed_change key items k one ≡ keyed_change key items k two
 
 -- that no two have one key stays so
 pub record KeyedKeeps (A : Type 0) : Type 0 where

@@ -2,7 +2,8 @@
 // lists of any type, by any key.
 ghost use Rattle.xp_base.specs.KeyedLaws.{KeyedFinds, KeyedKeeps, KeyedOrders, KeyedPlaces};
 
-/// Which item is found by a key once one was put at the end, changed, replaced, taken away or moved to the end.
+/// Which item is found by a key once one was put at the end, changed, replaced, taken away or moved to the end; and only
+/// what a change makes of that item matters.
 pub fn keyed_finds<T>()
     ensures { KeyedFinds T }
 {}
