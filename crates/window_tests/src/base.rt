@@ -3,14 +3,13 @@ ghost use Rattle.std.specs.Prelude.{◌≤◌};
 
 use std::alloc::{AllocError, Global};
 use std::cell::Cell;
-use std::io;
 use std::io::{ErrorKind, Read, Write};
 use std::test::Fail;
-use std::time;
 use std::time::Duration;
+use std::{io, time};
 use xp_base::{
-    Clock, Get, MemClock, MemSink, MemSource, Pixel, Put, ReaderSource, RealClock, Rect, Sink, Source,
-    StepClock, Text, Wid, WriterSink,
+    Clock, Get, MemClock, MemSink, MemSource, Pixel, Put, ReaderSource, RealClock, Rect, Sink,
+    Source, StepClock, Text, Wid, WriterSink,
 };
 
 #[test]

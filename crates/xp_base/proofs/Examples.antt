@@ -1,8 +1,8 @@
 -- The definitions, computed on small examples.
-use Rattle.std.proofs.Common.{◌≡◌, ℕ, Bool, true, false, Some, None, List, [], ◌∷◌, refl}
+use Rattle.std.proofs.Common.{◌≡◌, ℕ, true, false, Some, List, [], ◌∷◌, refl}
 use Rattle.xp_base.specs.Points.{survives}
-use Rattle.xp_base.specs.Clocks.{MemoryTime, next_moment, after_moment, CountedTime, after_count, milliseconds_between}
-use Rattle.xp_base.specs.Keyed.{keyed_find, has_key, keyed_push, keyed_change, keyed_replace, keyed_remove, keyed_last}
+use Rattle.xp_base.specs.Clocks.{MemoryTime, next_moment, after_moment, after_count, milliseconds_between}
+use Rattle.xp_base.specs.Keyed.{keyed_find, has_key, keyed_change, keyed_replace, keyed_remove, keyed_last}
 
 -- a window of 4 by 2 becomes one of 3 by 5: the point must be in both
 survives-inside : survives 4 2 3 5 2 1 ≡ true

@@ -1,6 +1,6 @@
 -- Items found, put at the end, changed, taken away and moved in a keyed list.
 use Rattle.std.proofs.Common.{◌≡◌, ◌≢◌, inl, inr, ℕ, ◌+◌, ◌<◌, Bool, true, false, Option, Some, None, List, [], ◌∷◌, ◌++◌, length, get_or, set, map, take, drop, zero, suc, cond, eqb, ltb, refl, sym, ap, ◌∙◌, arith, subst}
-use Rattle.std.specs.Prelude.{position, not, filter, find, is_some, All}
+use Rattle.std.specs.Prelude.{position, not, filter, is_some, All}
 use Rattle.std.specs.Option.{option_map}
 use Rattle.std.specs.List.{slice_get, position_or_len}
 use Rattle.std.proofs.lemmas.Bool.{cases_eq, cases_order, cond-true, cond-false, cond_both}
@@ -8,7 +8,7 @@ use Rattle.std.proofs.lemmas.Bool.Decides.{nat_tests}
 use Rattle.std.proofs.lemmas.Option.{cond_some, none-some, slice_get_past, slice_get-get_or}
 use Rattle.std.proofs.lemmas.List.Folds.{find_at, find-append}
 use Rattle.std.proofs.lemmas.List.{map_push, same_lists, length-map, length-set, get_or-map, get_or-set_same, get_or-set_other, get_or_default}
-use Rattle.std.proofs.lemmas.List.Elements.{All-push, All-map, All-set, All-filter, All-get_or}
+use Rattle.std.proofs.lemmas.List.Elements.{All-push, All-map, All-filter}
 use Rattle.std.proofs.lemmas.List.Kept.{AllPairs-filter}
 use Rattle.std.proofs.lemmas.List.Quantifiers.{all_pairs_push, position-Some}
 use Rattle.xp_base.specs.Keyed.{HasDistinctKeys, keyed_find, has_key, keyed_push, keyed_push_some, keyed_change, keyed_replace, keyed_remove, keyed_last}

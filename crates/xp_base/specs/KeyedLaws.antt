@@ -1,7 +1,7 @@
 -- What keyed lists come to: what is found in them, what they keep, the order of their keys, and what is done at an item's place.
-use Rattle.std.specs.Prelude.{ℕ, ◌+◌, ◌≡◌, ◌==◌, true, false, not, Option, Some, None, List, [], ◌∷◌, ◌++◌, map, filter, position, slice_get, slice_set, slice_index_or, take, drop, if◌then◌else◌}
+use Rattle.std.specs.Prelude.{ℕ, ◌+◌, ◌≡◌, ◌==◌, true, false, not, Some, None, List, [], ◌∷◌, ◌++◌, map, filter, position, slice_get, slice_set, slice_index_or, take, drop, if◌then◌else◌}
 use Rattle.std.specs.Option.{option_map}
-use Rattle.xp_base.specs.Keyed.{HasDistinctKeys, keyed_find, has_key, keyed_push, keyed_push_some, keyed_change, keyed_replace, keyed_remove, keyed_last}
+use Rattle.xp_base.specs.Keyed.{HasDistinctKeys, keyed_find, has_key, keyed_push, keyed_change, keyed_replace, keyed_remove, keyed_last}
 
 -- which item is found by a key
 pub record KeyedFinds (A : Type 0) : Type 0 where
