@@ -3,4 +3,10 @@
 #![tactic(auto)]
 
 #[cfg(test)]
+mod base;
+
+#[cfg(test)]
 mod first_scripts;
+
+#[cfg(test)]
+mod windows;

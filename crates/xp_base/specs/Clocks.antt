@@ -1,5 +1,5 @@
 -- Clocks, in milliseconds.
-use Rattle.std.specs.Prelude.{ℕ, ◌+◌, ◌-◌, ◌*◌, ◌/◌, ◌^◌, ◌≤◌, ◌≡◌, min, max, List, [], ◌∷◌}
+use Rattle.std.specs.Prelude.{ℕ, ◌+◌, ◌-◌, ◌/◌, ◌^◌, ◌≤◌, min, max, List, [], ◌∷◌}
 
 -- a clock in memory: the numbers that are left to give, the last that it gave, and the greatest; both 0 at first
 pub record MemoryTime : Type 0 where

@@ -9,3 +9,5 @@ pub mod Memory
 pub mod Answers
 pub mod Adapters
 pub mod Clocks
+pub mod Keyed
+pub mod KeyedLaws

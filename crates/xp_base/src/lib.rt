@@ -6,6 +6,7 @@ mod capture;
 mod clock;
 mod coding;
 mod due;
+mod laws;
 mod lists;
 mod mem_clock;
 mod mem_sink;
@@ -25,6 +26,7 @@ pub use capture::Capture;
 pub use clock::Clock;
 pub use coding::Coding;
 pub use due::Due;
+pub use laws::{keyed_finds, keyed_keeps, keyed_orders, keyed_places};
 pub use lists::{Bytes, Pixels, Rects};
 pub use mem_clock::MemClock;
 pub use mem_sink::MemSink;
@@ -39,6 +41,3 @@ pub use source::{Get, Source};
 pub use standard::{ReaderSource, WriterSink};
 pub use step_clock::StepClock;
 pub use text::Text;
-
-#[cfg(test)]
-mod tests;
