@@ -12,9 +12,10 @@ use Rattle.xp_base.specs.Captures.{Captured}
 use Rattle.delivery_model.specs.Grids.{Points, points, has, number, shown_at, cut, number_in}
 use Rattle.delivery_model.specs.Window.{Job, Draw, Draws, Window}
 use Rattle.delivery_model.specs.Client.{size_of}
-use Rattle.delivery_model.specs.Events.{is_empty, jobs_relieve, Planned, region_taken, job_of, jobs_of, captured, IsPlan, relief_queued, lossy_queued, queued, queue_ready, with_result, filing_of, Filing, Late, Foreign, Filed, filed_as, filed, capture_of}
+use Rattle.delivery_model.specs.Events.{is_empty, jobs_relieve, Planned, region_taken, job_of, jobs_of, captured, relief_queued, lossy_queued, queued, queue_ready, with_result, filing_of, Filing, Late, Foreign, Filed, filed_as, filed, capture_of}
+use Rattle.delivery_model.specs.Plans.{IsPlan}
 use Rattle.delivery_model.specs.Marks.{over}
-use Rattle.delivery_model.specs.Point.{packets_at, job_at, jobs_at, draw_at, job_mark}
+use Rattle.delivery_model.specs.Point.{packets_at, job_at, jobs_at, job_mark}
 use Rattle.delivery_model.specs.Kept.{IsOver, JobFits, PacketFits, IsKept}
 use Rattle.delivery_model.proofs.Grids.{has-points, has-points_within, has-empty, number_in-cut}
 use Rattle.delivery_model.proofs.MarkSteps.{IsGood, AllGood}

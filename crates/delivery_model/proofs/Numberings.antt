@@ -1,5 +1,5 @@
 -- Every event keeps the numbering.
-use Rattle.std.proofs.Common.{◌≡◌, ◌⊎◌, inl, inr, ℕ, suc, ◌+◌, ◌<◌, ◌≤◌, Bool, true, false, List, [], ◌∷◌, ◌++◌, Option, Some, None, map, length, cond, refl, sym, ap, ◌∙◌, subst, arith}
+use Rattle.std.proofs.Common.{◌≡◌, ◌⊎◌, inl, inr, ℕ, suc, ◌+◌, ◌<◌, ◌≤◌, Bool, true, false, List, [], ◌∷◌, ◌++◌, Option, Some, None, map, length, cond, refl, ap, subst, arith}
 use Rattle.std.specs.Prelude.{All, nat_eq}
 use Rattle.std.proofs.lemmas.Bool.{cases_Bool}
 use Rattle.std.proofs.lemmas.List.{map-append, length-append}
@@ -7,7 +7,7 @@ use Rattle.std.proofs.lemmas.List.Elements.{All-nil, All-cons, All-weaker}
 use Rattle.xp_base.specs.Points.{Rectangle}
 use Rattle.delivery_model.specs.Grids.{Points, Grid}
 use Rattle.delivery_model.specs.Window.{Job, Draw, Packet, NewWindow, WindowResized, Draws, Sent, Window}
-use Rattle.delivery_model.specs.Events.{Planned, region_taken, jobs_of, captured, queued, queue_ready, with_result, Filing, Late, Foreign, Filed, filing_of, capture_of, filed_as, given_back, with_relief, resized, acknowledged_as, rect_sent, without_sent, counted, started, written_front, Event, Start, Paint, Capture, File, Write, Acknowledge, MapWindow, UnmapWindow, Recall, Resize, BufferRefresh, Close, changed, step}
+use Rattle.delivery_model.specs.Events.{Planned, region_taken, jobs_of, captured, queued, queue_ready, with_result, Filing, Late, Foreign, Filed, filing_of, capture_of, filed_as, given_back, with_relief, resized, acknowledged_as, rect_sent, without_sent, started, written_front, Event, Start, Paint, Capture, File, Write, Acknowledge, MapWindow, UnmapWindow, Recall, Resize, BufferRefresh, Close, changed, step}
 use Rattle.delivery_model.specs.Invariant.{draws_of}
 use Rattle.delivery_model.specs.Numbers.{NumbersFrom, Rise, IsNumbered, NumberedWhereThere, next_after}
 

@@ -2,7 +2,7 @@
 use Rattle.std.proofs.Common.{◌≡◌, ◌⊎◌, inl, inr, ℕ, Bool, true, false, not, ◌&&◌, ◌||◌, List, [], ◌∷◌, ◌++◌, Option, Some, None, map, cond, refl, ap, ◌∙◌, arith}
 use Rattle.std.specs.Prelude.{nat_eq}
 use Rattle.std.specs.List.{list_any}
-use Rattle.std.proofs.lemmas.Bool.{cases_Bool, and_parts}
+use Rattle.std.proofs.lemmas.Bool.{cases_Bool}
 use Rattle.std.proofs.lemmas.Bool.Decides.{nat_tests}
 use Rattle.std.proofs.lemmas.List.Elements.{All-head}
 use Rattle.xp_base.specs.declared.coding.Coding.{Coding}
@@ -10,7 +10,8 @@ use Rattle.xp_base.specs.declared.coding.Coding.TheVariants as C
 use Rattle.xp_base.specs.Points.{Rectangle, is_in, is_within, survives, whole}
 use Rattle.delivery_model.specs.Grids.{Points, has, Grid}
 use Rattle.delivery_model.specs.Window.{Job, Packet, NewWindow, WindowResized, Draws, Window}
-use Rattle.delivery_model.specs.Events.{is_empty, jobs_relieve, started, damaged, painted, Planned, region_taken, captured, IsPlan, relief_queued, lossy_queued, queued, queue_ready, with_result, Filing, Late, Foreign, Filed, filing_of, capture_of, filed_as, with_relief, Event, Start, Paint, Capture, File, Write, Acknowledge, MapWindow, UnmapWindow, Recall, Resize, BufferRefresh, Close, changed, IsEvent, rect_sent, without_sent, counted, acknowledged_as, written_front, unmapped, given_back, resized}
+use Rattle.delivery_model.specs.Events.{is_empty, jobs_relieve, started, damaged, painted, Planned, region_taken, captured, relief_queued, lossy_queued, queued, queue_ready, with_result, Filing, Late, Foreign, Filed, filing_of, capture_of, filed_as, with_relief, Event, Start, Paint, Capture, File, Write, Acknowledge, MapWindow, UnmapWindow, Recall, Resize, BufferRefresh, Close, changed, rect_sent, without_sent, counted, acknowledged_as, written_front, unmapped, given_back, resized}
+use Rattle.delivery_model.specs.Plans.{IsPlan, IsEvent}
 use Rattle.delivery_model.specs.Owed.{packet_relieves, packets_relieve, is_owed, owes}
 use Rattle.delivery_model.specs.Changes.{owed_with, owed_without_front, owed_acknowledged, owed_after}
 use Rattle.delivery_model.specs.Kept.{JobFits, IsKept}
@@ -168,7 +169,7 @@ owed_refreshed now w x y = owed_damaged (whole w.desk.wide w.desk.high) now w x 
 pub owed_changed : (lossy_shows : ℕ → ℕ) (e : Event) (w : Window) → IsEvent (Some w) e → IsKept w → (x y : ℕ) → owes (changed lossy_shows e w) x y ≡ owed_after e w x y
 owed_changed lossy_shows (Start desk now) w event kept x y = refl
 owed_changed lossy_shows (Paint r numbers now) w event kept x y = owed_damaged r now (record w { desk = painted r numbers w.desk }) x y
-owed_changed lossy_shows (Capture plan first) w event kept x y = owed_captured plan first w event x y
+owed_changed lossy_shows (Capture plan first) w event kept x y = owed_captured plan first w event.planned x y
 owed_changed lossy_shows (File k capture now) w event kept x y = owed_filed_as (filing_of (capture_of w.jobs k) capture) k now w kept x y
 owed_changed lossy_shows (Write true) w event kept x y = owed_front lossy_shows w.packets w x y refl
 owed_changed lossy_shows (Write false) w event kept x y = refl

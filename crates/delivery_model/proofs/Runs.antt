@@ -1,12 +1,13 @@
 -- Every event keeps the form, and so does every list of events; numbers of jobs never come back.
 use Rattle.std.proofs.Common.{◌≡◌, ◌⊎◌, inl, inr, ℕ, ◌+◌, ◌<◌, ◌≤◌, Bool, true, false, List, [], ◌∷◌, ◌++◌, Option, Some, None, cond, refl, arith}
 use Rattle.std.specs.Prelude.{nat_eq}
-use Rattle.std.proofs.lemmas.Bool.{cases_Bool, and_parts, eqb-true}
+use Rattle.std.proofs.lemmas.Bool.{cases_Bool, eqb-true}
 use Rattle.xp_base.specs.Points.{Rectangle, whole}
 use Rattle.delivery_model.specs.Grids.{Points}
 use Rattle.xp_base.specs.Captures.{Captured}
 use Rattle.delivery_model.specs.Window.{Job, Packet, Window}
-use Rattle.delivery_model.specs.Events.{Planned, region_taken, jobs_of, queued, queue_ready, with_result, Filing, Late, Foreign, Filed, filing_of, capture_of, filed_as, given_back, acknowledged_as, rect_sent, written_front, Event, Start, Paint, Capture, File, Write, Acknowledge, MapWindow, UnmapWindow, Recall, Resize, BufferRefresh, Close, changed, step, run, IsEvent, AreEvents}
+use Rattle.delivery_model.specs.Events.{Planned, region_taken, jobs_of, queued, queue_ready, with_result, Filing, Late, Foreign, Filed, filing_of, capture_of, filed_as, given_back, acknowledged_as, rect_sent, written_front, Event, Start, Paint, Capture, File, Write, Acknowledge, MapWindow, UnmapWindow, Recall, Resize, BufferRefresh, Close, changed, step, run}
+use Rattle.delivery_model.specs.Plans.{IsEvent, AreEvents}
 use Rattle.delivery_model.specs.Kept.{IsKept}
 use Rattle.delivery_model.specs.Laws.{KeptWhereThere}
 use Rattle.delivery_model.specs.Numbers.{HasJob, IsInHand, NumbersFrom, AllNumberFrom, IsGone}
@@ -16,7 +17,7 @@ use Rattle.delivery_model.proofs.JobSteps.{keeps_captured, keeps_filed}
 pub kept_changed : (lossy_shows : ℕ → ℕ) (e : Event) (w : Window) → IsEvent (Some w) e → IsKept w → KeptWhereThere (changed lossy_shows e w)
 kept_changed lossy_shows (Start desk now) w event kept = kept
 kept_changed lossy_shows (Paint r numbers now) w event kept = keeps_painted r numbers now w kept
-kept_changed lossy_shows (Capture plan first) w event kept = keeps_captured plan first w event kept
+kept_changed lossy_shows (Capture plan first) w event kept = keeps_captured plan first w event.planned kept
 kept_changed lossy_shows (File k capture now) w event kept = keeps_filed k capture now w kept
 kept_changed lossy_shows (Write wholly) w event kept = keeps_written lossy_shows wholly w kept
 kept_changed lossy_shows (Acknowledge k negative now) w event kept = keeps_acknowledged k negative now w kept

@@ -1,6 +1,6 @@
 -- How each event changes what is owed. This project's own.
 use Rattle.std.specs.Prelude.{ℕ, Bool, true, false, not, ◌&&◌, ◌||◌, Option, Some, None, List, [], ◌∷◌}
-use Rattle.xp_base.specs.Points.{Rectangle, is_in, is_within, survives}
+use Rattle.xp_base.specs.Points.{Rectangle, is_in, is_within}
 use Rattle.delivery_model.specs.Window.{Packet, Window}
 use Rattle.delivery_model.specs.Events.{Event, Start, Paint, Capture, File, Write, Acknowledge, MapWindow, UnmapWindow, Recall, Resize, BufferRefresh, Close, rect_sent}
 use Rattle.delivery_model.specs.Owed.{packet_relieves, is_owed, owes}

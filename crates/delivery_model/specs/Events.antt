@@ -1,9 +1,9 @@
 -- What happens to one window of one client. The rules are this project's own; each is stated where it stands.
-use Rattle.std.specs.Prelude.{ℕ, ◌+◌, ◌-◌, ◌/◌, ◌*◌, ◌≡◌, min, max, Bool, true, false, not, ◌&&◌, ◌||◌, Option, Some, None, List, [], ◌∷◌, ◌++◌, map, length, slice_index, nat_eq, nat_le, bytes_eq, if◌then◌else◌, All}
+use Rattle.std.specs.Prelude.{ℕ, ◌+◌, ◌-◌, ◌/◌, ◌*◌, min, max, Bool, true, false, not, ◌&&◌, ◌||◌, Option, Some, None, List, [], ◌∷◌, ◌++◌, map, length, slice_index, nat_eq, nat_le, bytes_eq, if◌then◌else◌}
 use Rattle.std.specs.List.{list_any}
 use Rattle.xp_base.specs.declared.coding.Coding.{Coding}
 use Rattle.xp_base.specs.declared.coding.Coding.TheVariants as C
-use Rattle.xp_base.specs.Points.{Rectangle, LiesIn, is_in, is_within, survives, whole}
+use Rattle.xp_base.specs.Points.{Rectangle, is_in, is_within, survives, whole}
 use Rattle.xp_base.specs.Captures.{Captured}
 use Rattle.xp_base.specs.Grid.{place_of}
 use Rattle.delivery_model.specs.Grids.{Points, points, has, Grid, grid, number, cut}
@@ -84,12 +84,6 @@ captured plan first w = record w {
   pending = points_of w (λ x y. false);
   delay = if nat_le 32 (load w) then min 500 (2 * w.delay) else w.delay;
 }
-
--- what a plan gives: its rectangles lie in the window and have each point taken; a lossy one has no other point
-pub record IsPlan (w : Window) (plan : List Planned) : Type 0 where
-  pub within : All (λ (p : Planned). LiesIn w.desk.wide w.desk.high p.rect) plan
-  pub covers : (x y : ℕ) → has (region_taken w) x y ≡ true → list_any (λ (p : Planned). is_in p.rect x y) plan ≡ true
-  pub lossy : All (λ (p : Planned). p.coding ≡ C.Lossy → (x y : ℕ) → is_in p.rect x y ≡ true → has (region_taken w) x y ≡ true) plan
 
 -- an exact draw also relieves the lossy points in its rectangle, which stop being lossy; a lossy one makes its rectangle lossy since now
 abbrev pub relief_queued : Window → Rectangle → Points → Coding → Points
@@ -286,12 +280,3 @@ step lossy_shows (Some w) e = changed lossy_shows e w
 abbrev pub run : (ℕ → ℕ) → Option Window → List Event → Option Window
 run lossy_shows o [] = o
 run lossy_shows o (e ∷ events) = run lossy_shows (step lossy_shows o e) events
-
--- what an event has to be: a capture follows a plan
-abbrev pub IsEvent : Option Window → Event → Type 0
-IsEvent (Some w) (Capture plan first) = IsPlan w plan
-IsEvent o e = Unit {0}
-
-abbrev pub AreEvents : (ℕ → ℕ) → Option Window → List Event → Type 0
-AreEvents lossy_shows o [] = Unit {0}
-AreEvents lossy_shows o (e ∷ events) = IsEvent o e × AreEvents lossy_shows (step lossy_shows o e) events

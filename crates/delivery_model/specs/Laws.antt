@@ -1,10 +1,11 @@
 -- What is true of every window of every client, as statements. Each is the contract of a function of `src/laws.rt`.
-use Rattle.std.specs.Prelude.{ℕ, ◌≡◌, ◌≤◌, ◌<◌, Bool, true, false, not, ◌&&◌, ◌||◌, Option, Some, None, List, [], ◌∷◌, ◌++◌, All}
+use Rattle.std.specs.Prelude.{ℕ, ◌≡◌, ◌≤◌, ◌<◌, Bool, true, false, not, ◌&&◌, ◌||◌, Option, Some, None, List, ◌∷◌, ◌++◌, All}
 use Rattle.xp_base.specs.Points.{is_within}
 use Rattle.xp_base.specs.Captures.{Captured}
 use Rattle.delivery_model.specs.Grids.{has, points, Grid, grid, number, shown_at}
 use Rattle.delivery_model.specs.Window.{Window}
-use Rattle.delivery_model.specs.Events.{is_empty, Event, started, changed, step, run, IsEvent, AreEvents, given_back, jobs_relieve, resized, filing_of, capture_of, Late}
+use Rattle.delivery_model.specs.Events.{is_empty, Event, started, changed, step, run, given_back, jobs_relieve, resized, filing_of, capture_of, Late}
+use Rattle.delivery_model.specs.Plans.{IsEvent, AreEvents}
 use Rattle.delivery_model.specs.Owed.{is_owed, owes}
 use Rattle.delivery_model.specs.Changes.{owed_after}
 use Rattle.delivery_model.specs.Kept.{IsKept}

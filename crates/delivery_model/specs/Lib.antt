@@ -3,6 +3,7 @@ pub mod Window
 pub mod Client
 pub mod Events
 pub mod Refusals
+pub mod Plans
 pub mod Owed
 pub mod Marks
 pub mod Point

@@ -2,7 +2,6 @@ use Rattle.std.proofs.Common.{◌≡◌, ◌∙◌, Bool, not, ◌&&◌, ◌||�
 use Rattle.std.proofs.lemmas.Bool.Decides.{nat_tests}
 use Rattle.xp_base.specs.Points.{is_within}
 use Rattle.delivery_model.specs.Grids.{has}
-use Rattle.delivery_model.specs.Owed.{is_owed}
 use Rattle.delivery_model.proofs.OwedSteps.{owed_resized}
 use Rattle.delivery_model.specs.Events.{jobs_relieve}
 use Rattle.delivery_model.proofs.Grids.{has-points}
