@@ -1,10 +1,16 @@
+// Numbers, rectangles, input and output, clocks and texts.
 ghost use Rattle.std.specs.Prelude.{◌≤◌};
 
-use super::*;
 use std::alloc::{AllocError, Global};
-use std::io;
+use std::cell::Cell;
 use std::io::{ErrorKind, Read, Write};
 use std::test::Fail;
+use std::time::Duration;
+use std::{io, time};
+use xp_base::{
+    Clock, Get, MemClock, MemSink, MemSource, Pixel, Put, ReaderSource, RealClock, Rect, Sink,
+    Source, StepClock, Text, Wid, WriterSink,
+};
 
 #[test]
 fn numbers_are_refused_outside_their_ranges(rt: HostRuntime) {
@@ -302,4 +308,91 @@ fn a_write_or_a_flush_that_fails_is_told(rt: HostRuntime) {
         assert_eq!(rt; writer.held.as_slice(), held, "{step}");
         assert!(rt; writer.sent.is_empty(), "{step}");
     }
+}
+
+#[test]
+fn a_clock_in_memory_gives_its_moments_and_then_the_last(rt: HostRuntime) -> Result<(), Fail> {
+    let alloc = rt.alloc();
+    let cases: [(&[u64], &[u64]); 3] = [
+        (&[], &[0, 0]),
+        (&[7, 3, 9], &[7, 3, 9, 9, 9]),
+        (&[u64::MAX], &[u64::MAX, u64::MAX]),
+    ];
+    for (moments, wanted) in cases {
+        let mut clock = MemClock::new(moments.to_vec(alloc)?);
+        for want in wanted {
+            assert_eq!(rt; clock.now(), *want);
+        }
+    }
+    Ok(())
+}
+
+#[test]
+fn a_step_clock_counts_its_readings(rt: HostRuntime) {
+    let mut clock = StepClock::new();
+    for want in 0..5u64 {
+        assert_eq!(rt; clock.now(), want);
+    }
+}
+
+/// Tells these moments in milliseconds, each reading the next; a reading fails where there is none left.
+#[derive(Drop)]
+struct FakeSystem<'a> {
+    moments: &'a [Cell<Option<u64>>],
+}
+
+impl time::Clock for FakeSystem<'_> {
+    fn monotonic(&self) -> io::Result<Duration> {
+        for moment in self.moments {
+            if let Some(now) = moment.take() {
+                return Ok(Duration::from_millis(now));
+            }
+        }
+        Err(io::Error::from(LOST))
+    }
+
+    fn since_1970(&self) -> io::Result<Duration> {
+        Err(io::Error::from(LOST))
+    }
+}
+
+#[test]
+fn the_real_clock_counts_from_its_making_and_never_goes_back(rt: HostRuntime) {
+    let moments = [
+        Cell::new(Some(500)),
+        Cell::new(Some(500)),
+        Cell::new(Some(1503)),
+        Cell::new(Some(700)),
+        Cell::new(Some(2000)),
+    ];
+    let mut clock = RealClock::new(FakeSystem { moments: &moments });
+    for want in [0, 1003, 1003, 1500, 1500] {
+        assert_eq!(rt; clock.now(), want);
+    }
+    let mut stopped = RealClock::new(FakeSystem { moments: &[] });
+    assert_eq!(rt; stopped.now(), 0);
+    let mut real = RealClock::new(&rt);
+    let first = real.now();
+    assert!(rt; first <= real.now());
+}
+
+#[test]
+fn a_text_grows_piece_by_piece(rt: HostRuntime) -> Result<(), Fail> {
+    let mut text = Text::new(rt.alloc());
+    text.text(b"window ")?;
+    text.number(0)?;
+    text.text(b" ")?;
+    text.number(u64::MAX)?;
+    text.text(b" ")?;
+    text.signed(-32768)?;
+    text.text(b" ")?;
+    text.signed(i64::MIN)?;
+    text.text(b" ")?;
+    text.signed(5)?;
+    assert_eq!(rt;
+        text.as_slice(),
+        b"window 0 18446744073709551615 -32768 -9223372036854775808 5".as_slice()
+    );
+    assert_eq!(rt; text.into_vec().len(), 59);
+    Ok(())
 }

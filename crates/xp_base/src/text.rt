@@ -2,9 +2,9 @@
 ghost use Rattle.std.specs.Prelude.{◌≡◌, ◌≤◌, ◌+◌, ◌++◌, [], OnOk, length};
 ghost use Rattle.std.specs.Fmt.{decimal, signed_decimal};
 
+use crate::memory::NoMemory;
 use std::alloc::Global;
 use std::marker::Model;
-use xp_base::NoMemory;
 
 /// Bytes to which texts and numbers in decimal are appended.
 #[derive(Debug, Drop)]
