@@ -12,9 +12,9 @@ pub mod Given
 pub mod Items
 pub mod Pictured
 pub mod Replying
-pub mod Samples
 pub mod Sizes
 pub mod SmallReplies
 pub mod TalkExamples
+pub mod DrawNames
 pub mod Talks
 pub mod ToWritten

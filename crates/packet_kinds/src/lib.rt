@@ -3,6 +3,7 @@
 #![tactic(auto)]
 
 mod copies;
+mod draw_fields;
 mod draws_in;
 mod fault;
 mod from_client;
@@ -13,6 +14,7 @@ mod items_in;
 mod items_out;
 mod laws;
 mod replies;
+mod taking;
 mod to_client;
 mod to_reading;
 mod to_values;
@@ -38,6 +40,7 @@ pub use replies::{
     a_message_is_answered, a_packet_has_an_effect_by_its_bytes, an_answer_may_be_written,
     nothing_is_answered_at_first, replies_go_packet_by_packet, replies_only_go_on,
 };
+pub use taking::take_to_client;
 pub use to_client::ToClient;
 pub use to_reading::read_to_client;
 pub use writing::{from_bytes_of, to_bytes};
@@ -46,6 +49,3 @@ pub use written::{
     a_small_packet_of_a_client_may_be_written, what_a_client_writes_is_read_as_the_same_message,
     what_is_written_is_read_as_the_same_message,
 };
-
-#[cfg(test)]
-mod tests;

@@ -1,0 +1,5 @@
+//! Tests of what stands between pixels and bytes: values, frames, hellos, packets and codings. Nothing stands on this crate.
+#![tactic(auto)]
+
+#[cfg(test)]
+mod kinds;
