@@ -26,6 +26,3 @@ pub use laws::{
 pub use next::Next;
 pub use pieces::{Held, read_pieces};
 pub use writer::write_packet;
-
-#[cfg(test)]
-mod tests;
