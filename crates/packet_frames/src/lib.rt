@@ -29,6 +29,3 @@ pub use left::{a_packet_given_was_the_next, packets_before_stay};
 pub use next::Next;
 pub use pieces::{Held, read_pieces};
 pub use writer::write_packet;
-
-#[cfg(test)]
-mod tests;

@@ -16,6 +16,3 @@ pub use laws::{
 };
 pub use plain::{plain_decoding, plain_encoding};
 pub use sizes::pixel_size;
-
-#[cfg(test)]
-mod tests;

@@ -2,4 +2,16 @@
 #![tactic(auto)]
 
 #[cfg(test)]
+mod codings;
+
+#[cfg(test)]
+mod frames;
+
+#[cfg(test)]
+mod hello;
+
+#[cfg(test)]
 mod kinds;
+
+#[cfg(test)]
+mod values;

@@ -1,5 +1,5 @@
 // The worked examples, all widths from 1 to 40, and what no clause says.
-use crate::{DataFault, decode, encode, pixel_size};
+use rgb_encoders::{DataFault, decode, encode, pixel_size};
 use std::alloc::{AllocError, Global};
 use std::sync::Arc;
 use std::test::Fail;

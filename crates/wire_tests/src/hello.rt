@@ -1,5 +1,6 @@
-use super::*;
+// Hellos: first packets by their form and by their keys, and what the server answers.
 use bencode_values::{Read, read_value};
+use hello_caps::{Caps, HelloFault, HelloRead, goodbye, read_hello, server_hello};
 use packet_frames::write_packet;
 use std::alloc::Global;
 use std::fmt::Write;
@@ -38,113 +39,117 @@ fn told(alloc: Global, bytes: &[u8]) -> Result<String, Fail> {
     Ok(out)
 }
 
+/// First packets, and what they are answered.
+const FORMS: &[(&str, &str)] = &[
+    // the hellos of this project's own clients
+    ("l5:hellod9:encodingsl5:rgb32eee", "exact"),
+    (
+        "l5:hellod9:encodingsl5:rgb32e21:encodings.rgb_formatsl4:BGRX6:BGR565eee",
+        "lossy",
+    ),
+    // only other codings
+    ("l5:hellod9:encodingsl3:png4:webpeee", "NoEncoding"),
+    // not a list; a list without the word, or without a dictionary behind it
+    ("i5e", "NotHello"),
+    ("5:hello", "NotHello"),
+    ("de", "NotHello"),
+    ("d5:hellodee", "NotHello"),
+    ("le", "NotHello"),
+    ("l5:helloe", "NotHello"),
+    ("l5:hellolee", "NotHello"),
+    ("l5:hello0:e", "NotHello"),
+    ("l5:helloi0edee", "NotHello"),
+    ("l5:Hellodee", "NotHello"),
+    ("l6:hello dee", "NotHello"),
+    ("l4:helldee", "NotHello"),
+    ("lde5:helloe", "NotHello"),
+    ("ll5:helloedee", "NotHello"),
+    ("l10:disconnecte", "NotHello"),
+    ("l10:map-windowi1ei0ei0ei1ei1ee", "NotHello"),
+    // further items are ignored
+    ("l5:hellodei7ele0:dee", "exact"),
+    ("l5:hellodel3:pngee", "exact"),
+];
+
 #[test]
 fn each_first_packet_is_accepted_or_refused_by_its_form(rt: HostRuntime) -> Result<(), Fail> {
-    let cases = [
-        // the hellos of this project's own clients
-        ("l5:hellod9:encodingsl5:rgb32eee", "exact"),
-        (
-            "l5:hellod9:encodingsl5:rgb32e21:encodings.rgb_formatsl4:BGRX6:BGR565eee",
-            "lossy",
-        ),
-        // only other codings
-        ("l5:hellod9:encodingsl3:png4:webpeee", "NoEncoding"),
-        // not a list; a list without the word, or without a dictionary behind it
-        ("i5e", "NotHello"),
-        ("5:hello", "NotHello"),
-        ("de", "NotHello"),
-        ("d5:hellodee", "NotHello"),
-        ("le", "NotHello"),
-        ("l5:helloe", "NotHello"),
-        ("l5:hellolee", "NotHello"),
-        ("l5:hello0:e", "NotHello"),
-        ("l5:helloi0edee", "NotHello"),
-        ("l5:Hellodee", "NotHello"),
-        ("l6:hello dee", "NotHello"),
-        ("l4:helldee", "NotHello"),
-        ("lde5:helloe", "NotHello"),
-        ("ll5:helloedee", "NotHello"),
-        ("l10:disconnecte", "NotHello"),
-        ("l10:map-windowi1ei0ei0ei1ei1ee", "NotHello"),
-        // further items are ignored
-        ("l5:hellodei7ele0:dee", "exact"),
-        ("l5:hellodel3:pngee", "exact"),
-    ];
-    for (text, want) in cases {
+    for (text, want) in FORMS {
         let answer = told(rt.alloc(), text.as_bytes())?;
-        assert_eq!(rt; answer.as_str(), want, "{text}");
+        assert_eq!(rt; answer.as_str(), *want, "{text}");
     }
     Ok(())
 }
 
+/// Pairs of a hello, and what it is answered.
+const KEYS: &[(&str, &str)] = &[
+    ("", "exact"),
+    // encodings: any other kind counts as `rgb32`
+    ("9:encodingsl3:rgbe", "exact"),
+    ("9:encodingsl3:png3:rgbe", "exact"),
+    ("9:encodings3:png", "exact"),
+    ("9:encodingsi7e", "exact"),
+    ("9:encodingsd3:png3:pnge", "exact"),
+    ("9:encodingsle", "NoEncoding"),
+    ("9:encodingsl5:RGB324:rgb36:rgb32 e", "NoEncoding"),
+    // items that are no byte strings are ignored
+    ("9:encodingsli32el5:rgb32ed5:rgb325:rgb32ee", "NoEncoding"),
+    ("9:encodingsli32el3:pnge5:rgb32dee", "exact"),
+    // other keys are ignored, integers and groups among them
+    ("9:Encodingsl3:pnge", "exact"),
+    ("i9el3:pngei-1e3:png", "exact"),
+    ("8:encodingd9:encodingsl3:pngee", "exact"),
+    ("9:encodingsl3:pngei9el5:rgb32e", "NoEncoding"),
+    ("4:zlibi1e3:lz4i1e7:rencodei1e", "exact"),
+    // the last pair counts
+    ("9:encodingsl3:pnge9:encodingsl5:rgb32e", "exact"),
+    ("9:encodingsl5:rgb32e9:encodingsl3:pnge", "NoEncoding"),
+    ("9:encodingsl3:pnge9:encodingsi1e", "exact"),
+    ("9:encodingsl5:rgb32ei1e0:9:encodingsle", "NoEncoding"),
+    // formats
+    ("21:encodings.rgb_formatsl6:BGR565e", "lossy"),
+    ("21:encodings.rgb_formatsl4:BGRX4:RGBX6:BGR565e", "lossy"),
+    ("21:encodings.rgb_formatsl4:BGRXe", "exact"),
+    ("21:encodings.rgb_formatsle", "exact"),
+    ("21:encodings.rgb_formats6:BGR565", "exact"),
+    ("21:encodings.rgb_formatsl6:bgr565l6:BGR565ee", "exact"),
+    ("11:rgb_formatsl6:BGR565e", "exact"),
+    ("9:encodingsl5:rgb326:BGR565e", "exact"),
+    ("9:encodingsd11:rgb_formatsl6:BGR565ee", "exact"),
+    (
+        "21:encodings.rgb_formatsl6:BGR565e21:encodings.rgb_formatsl4:BGRXe",
+        "exact",
+    ),
+    (
+        "21:encodings.rgb_formatsl4:BGRXe21:encodings.rgb_formatsl6:BGR565e",
+        "lossy",
+    ),
+    (
+        "9:encodingsl3:pnge21:encodings.rgb_formatsl6:BGR565e",
+        "NoEncoding",
+    ),
+    // uuid
+    ("4:uuid1:a", "exact [97]"),
+    ("4:uuid3:a\u{0}b", "exact [97, 0, 98]"),
+    ("4:uuid0:", "exact"),
+    ("4:uuidl1:ae", "exact"),
+    ("4:uuidi7e", "exact"),
+    ("4:uuidd1:a1:be", "exact"),
+    ("4:UUID1:a", "exact"),
+    ("4:uuid1:a4:uuid1:b", "exact [98]"),
+    ("4:uuid1:a4:uuidi1e", "exact"),
+    (
+        "4:uuid1:z9:encodingsl3:rgbe21:encodings.rgb_formatsl6:BGR565e",
+        "lossy [122]",
+    ),
+];
+
 #[test]
 fn each_key_is_read_by_its_last_pair_and_its_kind(rt: HostRuntime) -> Result<(), Fail> {
-    let cases = [
-        ("", "exact"),
-        // encodings: any other kind counts as `rgb32`
-        ("9:encodingsl3:rgbe", "exact"),
-        ("9:encodingsl3:png3:rgbe", "exact"),
-        ("9:encodings3:png", "exact"),
-        ("9:encodingsi7e", "exact"),
-        ("9:encodingsd3:png3:pnge", "exact"),
-        ("9:encodingsle", "NoEncoding"),
-        ("9:encodingsl5:RGB324:rgb36:rgb32 e", "NoEncoding"),
-        // items that are no byte strings are ignored
-        ("9:encodingsli32el5:rgb32ed5:rgb325:rgb32ee", "NoEncoding"),
-        ("9:encodingsli32el3:pnge5:rgb32dee", "exact"),
-        // other keys are ignored, integers and groups among them
-        ("9:Encodingsl3:pnge", "exact"),
-        ("i9el3:pngei-1e3:png", "exact"),
-        ("8:encodingd9:encodingsl3:pngee", "exact"),
-        ("9:encodingsl3:pngei9el5:rgb32e", "NoEncoding"),
-        ("4:zlibi1e3:lz4i1e7:rencodei1e", "exact"),
-        // the last pair counts
-        ("9:encodingsl3:pnge9:encodingsl5:rgb32e", "exact"),
-        ("9:encodingsl5:rgb32e9:encodingsl3:pnge", "NoEncoding"),
-        ("9:encodingsl3:pnge9:encodingsi1e", "exact"),
-        ("9:encodingsl5:rgb32ei1e0:9:encodingsle", "NoEncoding"),
-        // formats
-        ("21:encodings.rgb_formatsl6:BGR565e", "lossy"),
-        ("21:encodings.rgb_formatsl4:BGRX4:RGBX6:BGR565e", "lossy"),
-        ("21:encodings.rgb_formatsl4:BGRXe", "exact"),
-        ("21:encodings.rgb_formatsle", "exact"),
-        ("21:encodings.rgb_formats6:BGR565", "exact"),
-        ("21:encodings.rgb_formatsl6:bgr565l6:BGR565ee", "exact"),
-        ("11:rgb_formatsl6:BGR565e", "exact"),
-        ("9:encodingsl5:rgb326:BGR565e", "exact"),
-        ("9:encodingsd11:rgb_formatsl6:BGR565ee", "exact"),
-        (
-            "21:encodings.rgb_formatsl6:BGR565e21:encodings.rgb_formatsl4:BGRXe",
-            "exact",
-        ),
-        (
-            "21:encodings.rgb_formatsl4:BGRXe21:encodings.rgb_formatsl6:BGR565e",
-            "lossy",
-        ),
-        (
-            "9:encodingsl3:pnge21:encodings.rgb_formatsl6:BGR565e",
-            "NoEncoding",
-        ),
-        // uuid
-        ("4:uuid1:a", "exact [97]"),
-        ("4:uuid3:a\u{0}b", "exact [97, 0, 98]"),
-        ("4:uuid0:", "exact"),
-        ("4:uuidl1:ae", "exact"),
-        ("4:uuidi7e", "exact"),
-        ("4:uuidd1:a1:be", "exact"),
-        ("4:UUID1:a", "exact"),
-        ("4:uuid1:a4:uuid1:b", "exact [98]"),
-        ("4:uuid1:a4:uuidi1e", "exact"),
-        (
-            "4:uuid1:z9:encodingsl3:rgbe21:encodings.rgb_formatsl6:BGR565e",
-            "lossy [122]",
-        ),
-    ];
-    for (pairs, want) in cases {
+    for (pairs, want) in KEYS {
         let mut text = String::new(rt.alloc());
         write!(text, "l5:hellod{pairs}ee")?;
         let answer = told(rt.alloc(), text.as_bytes())?;
-        assert_eq!(rt; answer.as_str(), want, "{pairs}");
+        assert_eq!(rt; answer.as_str(), *want, "{pairs}");
     }
     Ok(())
 }
@@ -158,16 +163,20 @@ fn push_letters(out: &mut String, size: usize) -> Result<(), Fail> {
     Ok(())
 }
 
+/// The sizes of uuids, and whether they are refused.
+const UUIDS: &[(usize, bool)] = &[
+    (0, false),
+    (1, false),
+    (63, false),
+    (64, false),
+    (65, true),
+    (70_000, true),
+];
+
 #[test]
 fn a_uuid_has_at_most_64_bytes(rt: HostRuntime) -> Result<(), Fail> {
-    for (size, refused) in [
-        (0usize, false),
-        (1, false),
-        (63, false),
-        (64, false),
-        (65, true),
-        (70_000, true),
-    ] {
+    for (size, refused) in UUIDS {
+        let (size, refused) = (*size, *refused);
         let mut text = String::new(rt.alloc());
         text.push_str("l5:hellod4:uuid")?;
         push_letters(&mut text, size)?;
@@ -187,20 +196,23 @@ fn a_uuid_has_at_most_64_bytes(rt: HostRuntime) -> Result<(), Fail> {
     Ok(())
 }
 
+/// What stands before a uuid of 65 bytes, and what the hello is answered.
+const LONG_UUIDS: &[(&str, &str)] = &[
+    ("l5:hellod9:encodingsl3:pnge4:uuid", "NoEncoding"),
+    ("l4:helld4:uuid", "NotHello"),
+    ("l5:hellod9:encodingsl3:rgbe4:uuid", "Uuid(65)"),
+    ("l5:hellod4:uuid1:a4:uuid", "Uuid(65)"),
+];
+
 #[test]
 fn a_long_uuid_is_named_behind_the_other_faults(rt: HostRuntime) -> Result<(), Fail> {
-    for (front, want) in [
-        ("l5:hellod9:encodingsl3:pnge4:uuid", "NoEncoding"),
-        ("l4:helld4:uuid", "NotHello"),
-        ("l5:hellod9:encodingsl3:rgbe4:uuid", "Uuid(65)"),
-        ("l5:hellod4:uuid1:a4:uuid", "Uuid(65)"),
-    ] {
+    for (front, want) in LONG_UUIDS {
         let mut text = String::new(rt.alloc());
         text.push_str(front)?;
         push_letters(&mut text, 65)?;
         text.push_str("ee")?;
         let answer = told(rt.alloc(), text.as_bytes())?;
-        assert_eq!(rt; answer.as_str(), want, "{front}");
+        assert_eq!(rt; answer.as_str(), *want, "{front}");
     }
     Ok(())
 }
@@ -276,49 +288,53 @@ fn a_hello_of_a_real_clients_shape_is_accepted(rt: HostRuntime) -> Result<(), Fa
     Ok(())
 }
 
+/// Whether the client allows the lossy coding, and the bytes that greet it.
+const SERVER_HELLOS: &[(bool, &[u8])] = &[
+    (
+        false,
+        b"\x50\x00\x00\x00\x00\x00\x00\x4bl5:hellod7:bencodei1e9:encodingsl5:rgb32e3:lz4i0e7:rencodei0e7:version1:1ee",
+    ),
+    (
+        true,
+        b"\x50\x00\x00\x00\x00\x00\x00\x52l5:hellod7:bencodei1e9:encodingsl5:rgb325:rgb16e3:lz4i0e7:rencodei0e7:version1:1ee",
+    ),
+];
+
 #[test]
 fn the_servers_hello_is_written(rt: HostRuntime) -> Result<(), Fail> {
     let alloc = rt.alloc();
-    let cases = [
-        (
-            false,
-            b"\x50\x00\x00\x00\x00\x00\x00\x4bl5:hellod7:bencodei1e9:encodingsl5:rgb32e3:lz4i0e7:rencodei0e7:version1:1ee".as_slice(),
-        ),
-        (
-            true,
-            b"\x50\x00\x00\x00\x00\x00\x00\x52l5:hellod7:bencodei1e9:encodingsl5:rgb325:rgb16e3:lz4i0e7:rencodei0e7:version1:1ee".as_slice(),
-        ),
-    ];
-    for (lossy, want) in cases {
+    for (lossy, want) in SERVER_HELLOS {
         let caps = Caps {
-            lossy,
+            lossy: *lossy,
             uuid: Bytes::new(Vec::new(alloc)),
         };
         let hello = server_hello(alloc, &caps)?;
         let bytes = write_packet(alloc, &hello, None)?;
-        assert_eq!(rt; bytes.as_slice(), want);
+        assert_eq!(rt; bytes.as_slice(), *want);
     }
     Ok(())
 }
 
+/// Why a client is refused, and the bytes that tell it.
+const REFUSALS: &[(HelloFault, &[u8])] = &[
+    (
+        HelloFault::NotHello,
+        b"\x50\x00\x00\x00\x00\x00\x00\x1al10:disconnect9:not helloe",
+    ),
+    (
+        HelloFault::NoEncoding,
+        b"\x50\x00\x00\x00\x00\x00\x00\x1dl10:disconnect11:no encodinge",
+    ),
+    (
+        HelloFault::Uuid(65),
+        b"\x50\x00\x00\x00\x00\x00\x00\x1fl10:disconnect13:uuid too longe",
+    ),
+];
+
 #[test]
 fn each_refusal_is_told_by_its_packet(rt: HostRuntime) {
-    let cases = [
-        (
-            HelloFault::NotHello,
-            b"\x50\x00\x00\x00\x00\x00\x00\x1al10:disconnect9:not helloe".as_slice(),
-        ),
-        (
-            HelloFault::NoEncoding,
-            b"\x50\x00\x00\x00\x00\x00\x00\x1dl10:disconnect11:no encodinge".as_slice(),
-        ),
-        (
-            HelloFault::Uuid(65),
-            b"\x50\x00\x00\x00\x00\x00\x00\x1fl10:disconnect13:uuid too longe".as_slice(),
-        ),
-    ];
-    for (fault, want) in cases {
-        assert_eq!(rt; goodbye(&fault), want);
+    for (fault, want) in REFUSALS {
+        assert_eq!(rt; goodbye(fault), *want);
     }
     assert_eq!(rt; goodbye(&HelloFault::NoEncoding).len(), 37);
 }

@@ -1,8 +1,11 @@
+// Frames: the packets of streams in pieces, and packets as they are written.
 ghost use Rattle.std.specs.Prelude.{◌≡◌, ◌≤◌, [], ◌∷◌, IfOk};
 ghost use Rattle.bencode_values.specs.declared.value.Value.TheVariants as V;
 
-use super::*;
-use bencode_values::{Items, Value};
+use bencode_values::{Items, Value, limits_by_form, spelling_by_form};
+use packet_frames::{
+    Chunk, FrameFault, Framer, Next, a_chunk_is_put_in_by_form, read_pieces, write_packet,
+};
 use std::alloc::Global;
 use std::fmt::Write;
 use std::test::Fail;
@@ -84,86 +87,93 @@ fn told(alloc: Global, limit: u32, bytes: &[u8], size: usize) -> Result<String, 
 
 const ONE_MIB: u32 = 1_048_576;
 
+/// Bytes, and what a framer answers to them.
+const STREAMS: &[(&[u8], &str)] = &[
+    (b"\x50\x00\x01", "2 Level(1)"),
+    (b"\x50\x10", "1 Flags(16)"),
+    (b"\x51", "0 Magic"),
+    (b"\x50\x08\x00\x00\x00\x00\x00\x02le", "0 le, 0 unread"),
+    (b"\x50\x00\x00\x00\x00\x10\x00\x01", "4 Size(1048577)"),
+    (
+        b"\x50\x00\x00\x01\x00\x00\x00\x01a\x50\x00\x00\x00\x00\x00\x00\x05l1:ae",
+        "3 Chunk(1)",
+    ),
+    (b"", "0 unread"),
+    // the size is judged with its last byte, a packet that is not whole waits
+    (b"\x50\x00\x00\x00\x00\x10\x00", "7 unread"),
+    (b"\x50\x00\x00\x00\x00\x10\x00\x00l", "9 unread"),
+    // two packets and a part of a third
+    (
+        b"\x50\x00\x00\x00\x00\x00\x00\x02le\x50\x00\x00\x00\x00\x00\x00\x03i1e\x50\x00\x00",
+        "0 le, 10 i1, 3 unread",
+    ),
+    // a chunk's bytes stand in the place of the empty string
+    (
+        b"\x50\x00\x00\x01\x00\x00\x00\x03\x07\x08\x09\x50\x00\x00\x00\x00\x00\x00\x07l1:a0:e",
+        "11 l[97] [7, 8, 9] e, 0 unread",
+    ),
+    // two chunks, in the other order; one of them is empty
+    (
+        b"\x50\x00\x00\x02\x00\x00\x00\x01z\x50\x00\x00\x01\x00\x00\x00\x00\x50\x00\x00\x00\x00\x00\x00\x08l0:0:0:e",
+        "17 l[] [] [122] e, 0 unread",
+    ),
+    (
+        b"\x50\x00\x00\x01\x00\x00\x00\x01z\x50\x00\x00\x02\x00\x00\x00\x01y\x50\x00\x00\x00\x00\x00\x00\x08l0:0:0:e",
+        "18 l[] [122] [121] e, 0 unread",
+    ),
+    // a second time the same index; a fifth chunk
+    (
+        b"\x50\x00\x00\x01\x00\x00\x00\x00\x50\x00\x00\x01",
+        "11 Chunk(1)",
+    ),
+    (
+        b"\x50\x00\x00\x01\x00\x00\x00\x00\x50\x00\x00\x02\x00\x00\x00\x00\x50\x00\x00\x03\x00\x00\x00\x00\x50\x00\x00\x04\x00\x00\x00\x00\x50\x00\x00\x05",
+        "35 Chunk(5)",
+    ),
+    // contents that are no value
+    (b"\x50\x00\x00\x00\x00\x00\x00\x02lx", "9 Payload(Letter)"),
+    (b"\x50\x00\x00\x00\x00\x00\x00\x01l", "9 Cut"),
+    (b"\x50\x00\x00\x00\x00\x00\x00\x00", "8 Cut"),
+    (b"\x50\x00\x00\x00\x00\x00\x00\x03lel", "10 Extra"),
+    // chunks for a value that is no list, and for an item that is not there; a packet before
+    (
+        b"\x50\x00\x00\x00\x00\x00\x00\x02le\x50\x00\x00\x01\x00\x00\x00\x00\x50\x00\x00\x00\x00\x00\x00\x020:",
+        "0 le, 13 Chunk(1)",
+    ),
+    (
+        b"\x50\x00\x00\x01\x00\x00\x00\x01z\x50\x00\x00\x02\x00\x00\x00\x00\x50\x00\x00\x00\x00\x00\x00\x06l0:0:e",
+        "12 Chunk(2)",
+    ),
+    // behind a fault nothing is read
+    (b"\x51\x50\x00\x00\x00\x00\x00\x00\x02le", "0 Magic"),
+];
+
 #[test]
 fn the_packets_are_the_same_in_any_pieces(rt: HostRuntime) -> Result<(), Fail> {
-    let cases: [(&[u8], &str); 22] = [
-        (b"\x50\x00\x01", "2 Level(1)"),
-        (b"\x50\x10", "1 Flags(16)"),
-        (b"\x51", "0 Magic"),
-        (b"\x50\x08\x00\x00\x00\x00\x00\x02le", "0 le, 0 unread"),
-        (b"\x50\x00\x00\x00\x00\x10\x00\x01", "4 Size(1048577)"),
-        (
-            b"\x50\x00\x00\x01\x00\x00\x00\x01a\x50\x00\x00\x00\x00\x00\x00\x05l1:ae",
-            "3 Chunk(1)",
-        ),
-        (b"", "0 unread"),
-        // the size is judged with its last byte, a packet that is not whole waits
-        (b"\x50\x00\x00\x00\x00\x10\x00", "7 unread"),
-        (b"\x50\x00\x00\x00\x00\x10\x00\x00l", "9 unread"),
-        // two packets and a part of a third
-        (
-            b"\x50\x00\x00\x00\x00\x00\x00\x02le\x50\x00\x00\x00\x00\x00\x00\x03i1e\x50\x00\x00",
-            "0 le, 10 i1, 3 unread",
-        ),
-        // a chunk's bytes stand in the place of the empty string
-        (
-            b"\x50\x00\x00\x01\x00\x00\x00\x03\x07\x08\x09\x50\x00\x00\x00\x00\x00\x00\x07l1:a0:e",
-            "11 l[97] [7, 8, 9] e, 0 unread",
-        ),
-        // two chunks, in the other order; one of them is empty
-        (
-            b"\x50\x00\x00\x02\x00\x00\x00\x01z\x50\x00\x00\x01\x00\x00\x00\x00\x50\x00\x00\x00\x00\x00\x00\x08l0:0:0:e",
-            "17 l[] [] [122] e, 0 unread",
-        ),
-        (
-            b"\x50\x00\x00\x01\x00\x00\x00\x01z\x50\x00\x00\x02\x00\x00\x00\x01y\x50\x00\x00\x00\x00\x00\x00\x08l0:0:0:e",
-            "18 l[] [122] [121] e, 0 unread",
-        ),
-        // a second time the same index; a fifth chunk
-        (
-            b"\x50\x00\x00\x01\x00\x00\x00\x00\x50\x00\x00\x01",
-            "11 Chunk(1)",
-        ),
-        (
-            b"\x50\x00\x00\x01\x00\x00\x00\x00\x50\x00\x00\x02\x00\x00\x00\x00\x50\x00\x00\x03\x00\x00\x00\x00\x50\x00\x00\x04\x00\x00\x00\x00\x50\x00\x00\x05",
-            "35 Chunk(5)",
-        ),
-        // contents that are no value
-        (b"\x50\x00\x00\x00\x00\x00\x00\x02lx", "9 Payload(Letter)"),
-        (b"\x50\x00\x00\x00\x00\x00\x00\x01l", "9 Cut"),
-        (b"\x50\x00\x00\x00\x00\x00\x00\x00", "8 Cut"),
-        (b"\x50\x00\x00\x00\x00\x00\x00\x03lel", "10 Extra"),
-        // chunks for a value that is no list, and for an item that is not there; a packet before
-        (
-            b"\x50\x00\x00\x00\x00\x00\x00\x02le\x50\x00\x00\x01\x00\x00\x00\x00\x50\x00\x00\x00\x00\x00\x00\x020:",
-            "0 le, 13 Chunk(1)",
-        ),
-        (
-            b"\x50\x00\x00\x01\x00\x00\x00\x01z\x50\x00\x00\x02\x00\x00\x00\x00\x50\x00\x00\x00\x00\x00\x00\x06l0:0:e",
-            "12 Chunk(2)",
-        ),
-        // behind a fault nothing is read
-        (b"\x51\x50\x00\x00\x00\x00\x00\x00\x02le", "0 Magic"),
-    ];
-    for (bytes, want) in cases {
+    for (bytes, want) in STREAMS {
         for size in [1, 3, 1000] {
             let answer = told(rt.alloc(), ONE_MIB, bytes, size)?;
-            assert_eq!(rt; answer.as_str(), want, "in pieces of {size}");
+            assert_eq!(rt; answer.as_str(), *want, "in pieces of {size}");
         }
     }
     Ok(())
 }
 
+/// A chunk of seven bytes and its packet.
+const SEVEN: &[u8] =
+    b"\x50\x00\x00\x01\x00\x00\x00\x07abcdefg\x50\x00\x00\x00\x00\x00\x00\x06l0:0:e";
+
+/// Limits, and what a framer answers to those.
+const LIMITS: &[(u32, &str)] = &[
+    (7, "15 l[] [97, 98, 99, 100, 101, 102, 103] e, 0 unread"),
+    (6, "4 Size(7)"),
+];
+
 #[test]
 fn the_limit_counts_each_content(rt: HostRuntime) -> Result<(), Fail> {
-    let bytes = b"\x50\x00\x00\x01\x00\x00\x00\x07abcdefg\x50\x00\x00\x00\x00\x00\x00\x06l0:0:e";
-    let cases = [
-        (7, "15 l[] [97, 98, 99, 100, 101, 102, 103] e, 0 unread"),
-        (6, "4 Size(7)"),
-    ];
-    for (limit, want) in cases {
-        let answer = told(rt.alloc(), limit, bytes, 2)?;
-        assert_eq!(rt; answer.as_str(), want, "with the limit {limit}");
+    for (limit, want) in LIMITS {
+        let answer = told(rt.alloc(), *limit, SEVEN, 2)?;
+        assert_eq!(rt; answer.as_str(), *want, "with the limit {limit}");
     }
     Ok(())
 }
@@ -180,6 +190,10 @@ fn two_empty_strings(alloc: Global) -> Result<Value, Fail>
 
 /// Writes that list with three bytes for its second item.
 fn write_two(alloc: Global) -> Result<Vec<u8>, Fail> {
+    // What may be written, by the forms of its parts.
+    limits_by_form();
+    spelling_by_form();
+    a_chunk_is_put_in_by_form();
     let value = two_empty_strings(alloc)?;
     let chunk = Chunk {
         index: 1,
