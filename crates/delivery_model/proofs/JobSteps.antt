@@ -23,7 +23,7 @@ use Rattle.delivery_model.proofs.PointSteps.{relief_at, lossy_at, kept_captured,
 use Rattle.delivery_model.proofs.Lists.{sizes_after-append, packets_at-append, jobs_at-append, any-jobs}
 
 -- a rectangle of the window has points of the window alone
-in_window : (w h : ℕ) (r : Rectangle) (x y : ℕ) → LiesIn w h r → is_in r x y ≡ true → is_within w h x y ≡ true
+pub in_window : (w h : ℕ) (r : Rectangle) (x y : ℕ) → LiesIn w h r → is_in r x y ≡ true → is_within w h x y ≡ true
 in_window w h r x y lies inside = grind (arith, nat_tests, lies.across, lies.down)
 
 job_fits : (w : Window) (region : Points) (k : ℕ) (p : Planned) → LiesIn w.desk.wide w.desk.high p.rect
@@ -113,7 +113,7 @@ jobs_at-with_result (j ∷ jobs) k x y = elim (cases_Bool (nat_eq j.number k)) [
   | inr other ↦ rw other (ap (λ js. job_at j x y ∷ js) (jobs_at-with_result jobs k x y))
 ]
 
-fit-with_result : (w h : ℕ) (jobs : List Job) (k : ℕ) → All (JobFits w h) jobs → All (JobFits w h) (with_result jobs k)
+pub fit-with_result : (w h : ℕ) (jobs : List Job) (k : ℕ) → All (JobFits w h) jobs → All (JobFits w h) (with_result jobs k)
 fit-with_result w h [] k fits = fits
 fit-with_result w h (j ∷ jobs) k fits = elim (cases_Bool (nat_eq j.number k)) [
   | inl same ↦ rw same (All-cons (JobFits w h) (record j { encoded = true }) jobs (again (All-head (JobFits w h) j jobs fits)) (All-tail (JobFits w h) j jobs fits))

@@ -11,35 +11,39 @@ use Rattle.delivery_model.specs.Events.{Planned, region_taken, jobs_of, captured
 use Rattle.delivery_model.specs.Invariant.{draws_of}
 use Rattle.delivery_model.specs.Numbers.{NumbersFrom, Rise, IsNumbered, NumberedWhereThere, next_after}
 
-abbrev job_numbers : List Job → List ℕ
+abbrev pub job_numbers : List Job → List ℕ
 job_numbers jobs = map (λ (j : Job). j.number) jobs
 
-abbrev draw_numbers : List Packet → List ℕ
+abbrev pub draw_numbers : List Packet → List ℕ
 draw_numbers packets = map (λ (d : Draw). d.sequence) (draws_of packets)
 
 abbrev sent_numbers : List Sent → List ℕ
 sent_numbers sent = map (λ (s : Sent). s.sequence) sent
 
 -- numbers that rise
-rise_from : (low lower next : ℕ) (ks : List ℕ) → lower ≤ low → Rise low next ks → Rise lower next ks
+pub rise_from : (low lower next : ℕ) (ks : List ℕ) → lower ≤ low → Rise low next ks → Rise lower next ks
 rise_from low lower next [] le rises = omega (arith, le, rises)
 rise_from low lower next (k ∷ ks) le rises = (omega (arith, le, rises.0), rises.1)
 
-rise_later : (low next later : ℕ) (ks : List ℕ) → next ≤ later → Rise low next ks → Rise low later ks
+pub rise_later : (low next later : ℕ) (ks : List ℕ) → next ≤ later → Rise low next ks → Rise low later ks
 rise_later low next later [] le rises = omega (arith, le, rises)
 rise_later low next later (k ∷ ks) le rises = (rises.0, rise_later (k + 1) next later ks le rises.1)
 
-rise_append : (low next later : ℕ) (ks js : List ℕ) → Rise low next ks → Rise next later js → Rise low later (ks ++ js)
+pub rise_append : (low next later : ℕ) (ks js : List ℕ) → Rise low next ks → Rise next later js → Rise low later (ks ++ js)
 rise_append low next later [] js rises more = rise_from next low later js rises more
 rise_append low next later (k ∷ ks) js rises more = (rises.0, rise_append (k + 1) next later ks js rises.1 more)
 
-rise_push : (low next : ℕ) (ks : List ℕ) → Rise low next ks → Rise low (next + 1) (ks ++ next ∷ [])
+pub rise_bound : (low next : ℕ) (ks : List ℕ) → Rise low next ks → low ≤ next
+rise_bound low next [] rises = rises
+rise_bound low next (k ∷ ks) rises = omega (arith, rises.0, rise_bound (k + 1) next ks rises.1)
+
+pub rise_push : (low next : ℕ) (ks : List ℕ) → Rise low next ks → Rise low (next + 1) (ks ++ next ∷ [])
 rise_push low next ks rises = rise_append low next (next + 1) ks (next ∷ []) rises (omega arith, omega arith)
 
-rise_tail : (next k : ℕ) (ks : List ℕ) → Rise 0 next (k ∷ ks) → Rise 0 next ks
+pub rise_tail : (next k : ℕ) (ks : List ℕ) → Rise 0 next (k ∷ ks) → Rise 0 next ks
 rise_tail next k ks rises = rise_from (k + 1) 0 next ks (omega arith) rises.1
 
-above : (low next : ℕ) (ks : List ℕ) → Rise low next ks → All (λ (i : ℕ). low ≤ i) ks
+pub above : (low next : ℕ) (ks : List ℕ) → Rise low next ks → All (λ (i : ℕ). low ≤ i) ks
 above low next [] rises = All-nil (λ (i : ℕ). low ≤ i)
 above low next (k ∷ ks) rises = All-cons (λ (i : ℕ). low ≤ i) k ks rises.0 (All-weaker (λ (i : ℕ). k + 1 ≤ i) (λ (i : ℕ). low ≤ i) (λ i more. omega (arith, more, rises.0)) ks (above (k + 1) next ks rises.1))
 
@@ -62,11 +66,11 @@ numbered_later next later w le numbered = record {
 }
 
 -- a capture
-rise_jobs : (desk : Grid) (region : Points) (first : ℕ) (plan : List Planned) → Rise first (first + length plan) (job_numbers (jobs_of desk region first plan))
+pub rise_jobs : (desk : Grid) (region : Points) (first : ℕ) (plan : List Planned) → Rise first (first + length plan) (job_numbers (jobs_of desk region first plan))
 rise_jobs desk region first [] = omega arith
 rise_jobs desk region first (p ∷ plan) = (omega arith, subst (λ (n : ℕ). Rise (first + 1) n (job_numbers (jobs_of desk region (first + 1) plan))) (omega arith) (rise_jobs desk region (first + 1) plan))
 
-length_jobs : (desk : Grid) (region : Points) (first : ℕ) (plan : List Planned) → length (jobs_of desk region first plan) ≡ length plan
+pub length_jobs : (desk : Grid) (region : Points) (first : ℕ) (plan : List Planned) → length (jobs_of desk region first plan) ≡ length plan
 length_jobs desk region first [] = refl
 length_jobs desk region first (p ∷ plan) = ap (λ (n : ℕ). suc n) (length_jobs desk region (first + 1) plan)
 
@@ -80,7 +84,7 @@ numbered_captured next plan first w from numbered = record {
 }
 
 -- a filing
-numbers-with_result : (jobs : List Job) (k : ℕ) → job_numbers (with_result jobs k) ≡ job_numbers jobs
+pub numbers-with_result : (jobs : List Job) (k : ℕ) → job_numbers (with_result jobs k) ≡ job_numbers jobs
 numbers-with_result [] k = refl
 numbers-with_result (j ∷ jobs) k = elim (cases_Bool (nat_eq j.number k)) [
   | inl same ↦ rw same refl
@@ -94,7 +98,7 @@ length-with_result (j ∷ jobs) k = elim (cases_Bool (nat_eq j.number k)) [
   | inr other ↦ rw other (ap (λ (n : ℕ). suc n) (length-with_result jobs k))
 ]
 
-draws-append : (packets more : List Packet) → draws_of (packets ++ more) ≡ draws_of packets ++ draws_of more
+pub draws-append : (packets more : List Packet) → draws_of (packets ++ more) ≡ draws_of packets ++ draws_of more
 draws-append [] more = refl
 draws-append (NewWindow w h ∷ packets) more = draws-append packets more
 draws-append (WindowResized w h ∷ packets) more = draws-append packets more
@@ -161,7 +165,7 @@ numbered_given_back next now w numbered = record { jobs = omega arith; waiting =
 numbered_marked : (next : ℕ) (mapped : Bool) (w : Window) → IsNumbered next w → IsNumbered next (record w { mapped = mapped })
 numbered_marked next mapped w numbered = record { jobs = numbered.jobs; waiting = numbered.waiting; unacknowledged = numbered.unacknowledged; room = numbered.room }
 
-numbers-with_relief : (w h : ℕ) (kept : ℕ → ℕ → Bool) (packets : List Packet) → draw_numbers (map (with_relief w h kept) packets ++ WindowResized w h ∷ []) ≡ draw_numbers packets
+pub numbers-with_relief : (w h : ℕ) (kept : ℕ → ℕ → Bool) (packets : List Packet) → draw_numbers (map (with_relief w h kept) packets ++ WindowResized w h ∷ []) ≡ draw_numbers packets
 numbers-with_relief w h kept [] = refl
 numbers-with_relief w h kept (NewWindow a b ∷ packets) = numbers-with_relief w h kept packets
 numbers-with_relief w h kept (WindowResized a b ∷ packets) = numbers-with_relief w h kept packets

@@ -18,7 +18,7 @@ use Rattle.delivery_model.specs.Kept.{JobFits, IsKept}
 use Rattle.delivery_model.proofs.Grids.{has-points_within, has-empty}
 use Rattle.delivery_model.proofs.JobSteps.{jobs_of-relieve, has-relief_queued, has-lossy_queued, keeps_queued, keeps_result}
 
-jobs_relieve-append : (jobs new : List Job) (x y : ℕ) → jobs_relieve (jobs ++ new) x y ≡ (jobs_relieve jobs x y || jobs_relieve new x y)
+pub jobs_relieve-append : (jobs new : List Job) (x y : ℕ) → jobs_relieve (jobs ++ new) x y ≡ (jobs_relieve jobs x y || jobs_relieve new x y)
 jobs_relieve-append [] new x y = refl
 jobs_relieve-append (j ∷ jobs) new x y = grind (arith, nat_tests, jobs_relieve-append jobs new x y)
 
@@ -86,7 +86,7 @@ owed_ready now (j ∷ jobs) w kept x y within = which j.encoded
     which true left = left
     which false left = refl
 
-relieve-with_result : (jobs : List Job) (k x y : ℕ) → jobs_relieve (with_result jobs k) x y ≡ jobs_relieve jobs x y
+pub relieve-with_result : (jobs : List Job) (k x y : ℕ) → jobs_relieve (with_result jobs k) x y ≡ jobs_relieve jobs x y
 relieve-with_result [] k x y = refl
 relieve-with_result (j ∷ jobs) k x y = elim (cases_Bool (nat_eq j.number k)) [
   | inl same ↦ rw same refl
@@ -129,7 +129,7 @@ owed_unmapped now w x y = which w.mapped
     which false = refl
 
 -- the waiting reliefs, cut
-cut_relieve : (w h : ℕ) (kept : ℕ → ℕ → Bool) (packets : List Packet) (x y : ℕ) → is_within w h x y ≡ true → packets_relieve (map (with_relief w h kept) packets) x y ≡ (packets_relieve packets x y && kept x y)
+pub cut_relieve : (w h : ℕ) (kept : ℕ → ℕ → Bool) (packets : List Packet) (x y : ℕ) → is_within w h x y ≡ true → packets_relieve (map (with_relief w h kept) packets) x y ≡ (packets_relieve packets x y && kept x y)
 cut_relieve w h kept [] x y within = refl
 cut_relieve w h kept (NewWindow a b ∷ packets) x y within = cut_relieve w h kept packets x y within
 cut_relieve w h kept (WindowResized a b ∷ packets) x y within = cut_relieve w h kept packets x y within

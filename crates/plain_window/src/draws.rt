@@ -61,7 +61,12 @@ fn resized_client(alloc: Global, old: &PixelGrid, size: Rect) -> Result<PixelGri
 fn drawn_client(alloc: Global, old: &PixelGrid, draw: &PlainDraw) -> Result<PixelGrid, NoMemory>
     ensures { IfOk result (λ g. g ≡ grid old.now.wide old.now.high (λ x y. if is_in draw.now.capture.rect x y then shown even_below draw.now.capture.coding (number_in draw.now.capture.rect draw.now.capture.pixels x y) else number old.now x y)) }
 {
-    let new = WithDraw { grid: old, draw };
+    let new = WithDraw {
+        grid: old,
+        rect: draw.rect,
+        coding: draw.coding,
+        pixels: draw.pixels.as_slice(),
+    };
     Ok(PixelGrid::of(alloc, old.wide(), old.high(), &new)?)
 }
 

@@ -7,9 +7,9 @@ ghost use Rattle.xp_base.specs.Points.{survives};
 ghost use Rattle.delivery_model.specs.Client.{shown};
 ghost use Rattle.plain_window.specs.Plain.{even_below, packet_seen};
 
-use crate::parts::{PlainDraw, PlainJob, PlainPacket};
+use crate::parts::{PlainJob, PlainPacket};
 use point_grids::{AtPoint, PixelGrid, PointSet, number_in};
-use xp_base::Coding;
+use xp_base::{Coding, Rect};
 
 /// Whether some job in hand relieves the point.
 pub fn jobs_relieve(jobs: &[PlainJob], x: u32, y: u32) -> bool
@@ -130,7 +130,9 @@ pub fn shown(coding: Coding, number: u32) -> u32
 #[derive(Clone, Copy)]
 pub struct WithDraw<'a> {
     pub grid: &'a PixelGrid,
-    pub draw: &'a PlainDraw,
+    pub rect: Rect,
+    pub coding: Coding,
+    pub pixels: &'a [u32],
 }
 
 impl AtPoint<u32> for WithDraw<'_> {
@@ -140,14 +142,11 @@ impl AtPoint<u32> for WithDraw<'_> {
     ghost use Rattle.delivery_model.specs.Client.{shown};
     ghost use Rattle.plain_window.specs.Plain.{even_below};
 
-    ghost value = { λ t x y. if is_in t.draw.now.capture.rect x y then shown even_below t.draw.now.capture.coding (number_in t.draw.now.capture.rect t.draw.now.capture.pixels x y) else number t.grid.now x y };
+    ghost value = { λ t x y. if is_in t.rect x y then shown even_below t.coding (number_in t.rect t.pixels.now x y) else number t.grid.now x y };
 
     fn at(&self, x: u32, y: u32) -> u32 {
-        if self.draw.rect.contains(x, y) {
-            shown(
-                self.draw.coding,
-                number_in(self.draw.rect, self.draw.pixels.as_slice(), x, y),
-            )
+        if self.rect.contains(x, y) {
+            shown(self.coding, number_in(self.rect, self.pixels, x, y))
         } else {
             self.grid.number(x, y)
         }
