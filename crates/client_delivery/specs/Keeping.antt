@@ -1,0 +1,1 @@
+-- Each step of an attached client keeps that each of its windows is the model's.

@@ -1,0 +1,2 @@
+//! One client's view of one window: each call is an event of the model.
+#![tactic(auto)]
