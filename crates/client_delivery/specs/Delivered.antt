@@ -10,7 +10,6 @@ use Rattle.window_model.specs.Geometry.{Geometry, geometry_of}
 use Rattle.delivery_model.specs.Grids.{Grid}
 use Rattle.delivery_model.specs.Window.{Window as Delivery}
 use Rattle.delivery_model.specs.Kept.{IsKept}
-use Rattle.delivery_model.specs.Numbers.{IsNumbered}
 use Rattle.packet_kinds.specs.declared.to_client.ToClient.{ToClient}
 use Rattle.packet_kinds.specs.declared.to_client.ToClient.TheVariants as T
 use Rattle.packet_kinds.specs.Effects.{effect}
@@ -98,12 +97,3 @@ pub record IsTold (desk : List Window) (opened : ℕ → Bool) (a : AttachedSeen
   pub waiting : List Waiting
   pub bytes : IsOnItsWay a.out sent windows waiting
   pub delivered : IsDelivered desk opened a.sources windows waiting
-
--- The numbering of each window, up to the next job's number. It asks for neither pixels nor what the client shows.
-abbrev pub AreNumbered : ℕ → List SourceSeen → List Waiting → Type 0
-AreNumbered next sources waiting = (k : ℕ) (s : SourceSeen) → find_source sources k ≡ Some s → IsNumbered next (window_of s [] None (waits_on s.wide s.high k waiting))
-
--- both
-pub record IsToldAndNumbered (desk : List Window) (opened : ℕ → Bool) (next : ℕ) (a : AttachedSeen) (sent : List ℕ) : Type 0 where
-  pub told : IsTold desk opened a sent
-  pub numbered : AreNumbered next a.sources told.waiting

@@ -1,5 +1,5 @@
 -- What happens to an attached client, step by step. Each step is met by what it makes of the sources and of the packets.
-use Rattle.std.specs.Prelude.{ℕ, ◌≡◌, ◌≤◌, ◌≢◌, Bool, Option, Some, List, [], ◌∷◌, ◌++◌, map, length, ℤ}
+use Rattle.std.specs.Prelude.{ℕ, ◌≡◌, ◌≤◌, ◌≢◌, Bool, true, Option, Some, None, List, [], ◌∷◌, ◌++◌, map, length, ℤ}
 use Rattle.std.specs.List.{AllByRecursion}
 use Rattle.xp_base.specs.Captures.{Captured}
 use Rattle.xp_base.specs.Keyed.{keyed_push, keyed_change, keyed_remove}
@@ -8,7 +8,9 @@ use Rattle.bencode_values.specs.declared.value.Value.{Value}
 use Rattle.rect_regions.specs.PointSets.{has}
 use Rattle.delivery_model.specs.Window.{Window as Delivery, Packet}
 use Rattle.delivery_model.specs.Grids.{Grid}
-use Rattle.delivery_model.specs.Events.{Planned, captured, filed, resized}
+use Rattle.xp_base.specs.Points.{whole}
+use Rattle.delivery_model.specs.Events.{Planned, captured, filed, resized, unmapped, given_back, acknowledged, damaged}
+use Rattle.delivery_model.specs.Plans.{IsCaptureOf}
 use Rattle.window_model.specs.Desktop.{Window}
 use Rattle.window_model.specs.Geometry.{Geometry}
 use Rattle.packet_kinds.specs.declared.to_client.ToClient.{ToClient}
@@ -20,6 +22,7 @@ use Rattle.window_source.specs.Source.{SourceSeen, window_of, source_of, after}
 use Rattle.window_source.specs.Waiting.{Queued, Waiting, Carries, waits_on}
 use Rattle.client_delivery.specs.Attached.{AttachedSeen, source_key, find_source, started_source}
 use Rattle.client_delivery.specs.Delivered.{messages_of, packets_of}
+use Rattle.client_delivery.specs.Numbered.{numbered_on}
 
 -- the packet of a message that is no draw
 abbrev pub structure : Queued → ToClient → Waiting
@@ -49,6 +52,22 @@ pub record Attaches (desk : List Window) (conn now : ℕ) (a : AttachedSeen) : T
 abbrev pub changes_source : ℕ → (Delivery → Delivery) → AttachedSeen → AttachedSeen
 changes_source k event a = record a { sources = keyed_change source_key a.sources k (after event) }
 
+-- events of one window that ask for no pixels and no packets: what a client says, and giving back
+pub data Quiet : Type 0 where
+  Mapping : Quiet
+  Unmapping : ℕ → Quiet
+  GivingBack : ℕ → Quiet
+  -- the number, and whether the time is negative
+  Acknowledging : ℕ → Bool → ℕ → Quiet
+  Refreshing : ℕ → Quiet
+
+abbrev pub quiet : Quiet → Delivery → Delivery
+quiet Mapping w = record w { mapped = true }
+quiet (Unmapping now) w = unmapped now w
+quiet (GivingBack now) w = given_back now w
+quiet (Acknowledging number negative now) w = acknowledged number negative now w
+quiet (Refreshing now) w = damaged (whole w.desk.wide w.desk.high) now w
+
 -- a window was opened
 pub record Opens (window : Window) (conn now : ℕ) (a a' : AttachedSeen) : Type 0 where
   pub sources : a'.sources ≡ keyed_push a.sources (started_source conn now window)
@@ -75,11 +94,12 @@ pub record PutsAlone (m : ToClient) (a a' : AttachedSeen) : Type 0 where
   pub sources : a'.sources ≡ a.sources
   pub put : Puts m a.out a'.out
 
--- a window was captured: these rectangles of it, by jobs numbered from here on
+-- a window was captured, where it is not clean: these rectangles of it, by jobs numbered from here on
 pub record Captures (window : Window) (plan : List Planned) (first : ℕ) (a a' : AttachedSeen) : Type 0 where
   pub source : SourceSeen
   pub found : find_source a.sources window.wid ≡ Some source
-  pub sources : a'.sources ≡ keyed_change source_key a.sources window.wid (λ s. source_of s.conn s.wid (captured plan first (window_of s window.pixels Option.None [])))
+  pub planned : IsCaptureOf (window_of source window.pixels None (numbered_on window.wid a.out.packets)) plan
+  pub sources : a'.sources ≡ keyed_change source_key a.sources window.wid (λ s. source_of s.conn s.wid (captured plan first (window_of s window.pixels None [])))
   pub out : a'.out ≡ a.out
 
 -- A result was filed with the source of this window: the draws that left the jobs in hand were put behind all that wait. For
