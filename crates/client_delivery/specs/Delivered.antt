@@ -68,6 +68,11 @@ concerns k (T.PingEcho t) = false
 concerns k (T.Disconnect reason) = false
 concerns k T.Other = false
 
+-- the message takes this window away
+abbrev pub loses : ℕ → ToClient → Bool
+loses k (T.LostWindow wid) = k == wid
+loses k m = false
+
 -- a window and its source, where there are such: both or none, and of one size
 abbrev pub AreOfOneSize : Option Window → Option SourceSeen → Type 0
 AreOfOneSize None None = Unit {0}
@@ -90,6 +95,8 @@ pub record IsDelivered (desk : List Window) (opened : ℕ → Bool) (sources : L
   -- a number that no line so far has opened has no window and no packet
   pub absent : (k : ℕ) → opened k ≡ false → (find_window windows k ≡ None) × AllByRecursion (λ (w : Waiting). concerns k w.message ≡ false) waiting
   pub begun : (k : ℕ) → has_window desk k ≡ true → opened k ≡ true
+  -- no packet that waits takes a window of the desktop away
+  pub stays : (k : ℕ) → has_window desk k ≡ true → AllByRecursion (λ (w : Waiting). loses k w.message ≡ false) waiting
 
 -- what is kept of an attached client and the bytes sent to it
 pub record IsTold (desk : List Window) (opened : ℕ → Bool) (a : AttachedSeen) (sent : List ℕ) : Type 0 where

@@ -1,5 +1,5 @@
 -- Each step of an attached client keeps that each of its windows is the model's.
-use Rattle.std.specs.Prelude.{ℕ, ◌≡◌, ◌==◌, ◌≤◌, Bool, true, false, ℤ, Option, Some, None, List, [], ◌∷◌, ◌++◌, length, take}
+use Rattle.std.specs.Prelude.{ℕ, ◌≡◌, ◌==◌, ◌≤◌, ◌*◌, Bool, true, false, ℤ, Option, Some, None, List, [], ◌∷◌, ◌++◌, length, take}
 use Rattle.xp_base.specs.Captures.{Captured}
 use Rattle.xp_base.specs.Grid.{place_of}
 use Rattle.xp_base.specs.Points.{Rectangle, is_in, is_within}
@@ -28,6 +28,7 @@ QuietKeeps = (desk : List Window) (were_opened : ℕ → Bool) (k : ℕ) (q : Qu
 -- a window has other pixels in a rectangle alone
 pub record IsPainted (r : Rectangle) (window window' : Window) : Type 0 where
   pub same : window' ≡ record window { pixels = window'.pixels }
+  pub sized : length window'.pixels ≡ window.w * window.h
   pub outside : (x y : ℕ) → is_within window.w window.h x y ≡ true → is_in r x y ≡ false → number (grid_of window') x y ≡ number (grid_of window) x y
 
 abbrev pub PaintKeeps : Type 0

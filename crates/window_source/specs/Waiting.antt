@@ -11,6 +11,7 @@ use Rattle.delivery_model.specs.Window.{Packet, NewWindow, WindowResized, Draws}
 use Rattle.delivery_model.specs.Client.{shown}
 use Rattle.packet_kinds.specs.declared.to_client.ToClient.{ToClient}
 use Rattle.packet_kinds.specs.declared.to_client.ToClient.TheVariants as T
+use Rattle.packet_kinds.specs.Effects.{holds_pixels}
 use Rattle.packet_kinds.specs.Written.{IsMessage}
 use Rattle.client_outbox.specs.declared.draw.Draw.{Draw}
 use Rattle.client_outbox.specs.Outgoing.{WaitingPacket}
@@ -37,7 +38,7 @@ pub record Waiting : Type 0 where
 abbrev pub IsDraw : Option ℕ → Option Draw → List ℕ → ToClient → Type 0
 IsDraw (Some k) (Some d) pixels (T.Draw wid x y w h coding bytes sequence stride) =
     (k ≡ wid) × (d.rect ≡ record { x = x; y = y; w = w; h = h }) × (d.coding ≡ coding) × (sequence ≡ pos d.sequence)
-    × (length pixels ≡ area d.rect) × (decoded coding w h stride bytes ≡ map (shown lossy_shows coding) pixels)
+    × (length pixels ≡ area d.rect) × (holds_pixels coding w h stride bytes ≡ true) × (decoded coding w h stride bytes ≡ map (shown lossy_shows coding) pixels)
 IsDraw (Some k) (Some d) pixels m = ⊥
 IsDraw (Some k) None pixels m = ⊥
 IsDraw None (Some d) pixels m = ⊥
