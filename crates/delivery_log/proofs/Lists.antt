@@ -60,7 +60,7 @@ abbrev pub hand_numbers : List Job → List ℕ
 hand_numbers jobs = map (λ (j : Job). j.number) jobs
 
 -- whether the log captures a number
-captures_as : (k : ℕ) (log : List Entry) → list_any (is_capture k) log ≡ list_any (λ (c : Recorded). nat_eq c.number k) (captured_jobs log)
+pub captures_as : (k : ℕ) (log : List Entry) → list_any (is_capture k) log ≡ list_any (λ (c : Recorded). nat_eq c.number k) (captured_jobs log)
 captures_as k [] = refl
 captures_as k (Fresh ∷ log) = captures_as k log
 captures_as k (Kept w h ∷ log) = captures_as k log

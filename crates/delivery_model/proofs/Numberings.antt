@@ -47,7 +47,7 @@ pub above : (low next : ℕ) (ks : List ℕ) → Rise low next ks → All (λ (i
 above low next [] rises = All-nil (λ (i : ℕ). low ≤ i)
 above low next (k ∷ ks) rises = All-cons (λ (i : ℕ). low ≤ i) k ks rises.0 (All-weaker (λ (i : ℕ). k + 1 ≤ i) (λ (i : ℕ). low ≤ i) (λ i more. omega (arith, more, rises.0)) ks (above (k + 1) next ks rises.1))
 
-reaches : (low next k : ℕ) (front behind : List ℕ) → Rise low next (front ++ k ∷ behind) → low ≤ k
+pub reaches : (low next k : ℕ) (front behind : List ℕ) → Rise low next (front ++ k ∷ behind) → low ≤ k
 reaches low next k [] behind rises = rises.0
 reaches low next k (i ∷ front) behind rises = omega (arith, rises.0, reaches (i + 1) next k front behind rises.1)
 
