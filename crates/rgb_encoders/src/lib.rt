@@ -1,9 +1,11 @@
 //! The two codings of pixels: four bytes a pixel, exactly, or two bytes a pixel, with a stated loss.
 #![tactic(auto)]
 
+mod blocks;
 mod decoding;
 mod encoding;
 mod fault;
+mod lanes;
 mod laws;
 mod plain;
 mod sizes;

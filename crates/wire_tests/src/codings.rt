@@ -1,5 +1,5 @@
 // The worked examples, all widths from 1 to 40, and what no clause says.
-use rgb_encoders::{DataFault, decode, encode, pixel_size};
+use rgb_encoders::{DataFault, decode, encode, pixel_size, plain_decoding, plain_encoding};
 use std::alloc::{AllocError, Global};
 use std::sync::Arc;
 use std::test::Fail;
@@ -119,6 +119,12 @@ fn compare(
     }
     let stride = w * pixel_size(coding) + gap;
     let decoded = decode(alloc, coding, w, HIGH, stride, bytes.as_slice())?;
+    let plain = plain_decoding(alloc, coding, w, HIGH, stride, bytes.as_slice())?;
+    assert_eq!(rt;
+        decoded.as_slice(),
+        plain.as_slice(),
+        "width {w}, both bodies"
+    );
     assert_eq!(rt; decoded.as_slice().len(), pixels.len(), "width {w}");
     for (found, pixel) in decoded.as_slice().iter().zip(pixels) {
         assert_eq!(rt;
@@ -142,6 +148,15 @@ fn codes_widths_1_to_40(rt: HostRuntime) -> Result<(), Fail> {
             }
             compare(&rt, alloc, coding, w, 0, pixels.as_slice())?;
             compare(&rt, alloc, coding, w, GAP, pixels.as_slice())?;
+            if pixels.len() > 120 {
+                return Err("at most 40 columns of 3 rows".into());
+            }
+            let plain = plain_encoding(alloc, coding, pixels.as_slice())?;
+            assert_eq!(rt;
+                plain.as_slice(),
+                bytes.as_slice(),
+                "width {w}, {coding:?}, the plain body"
+            );
             let made = encode(alloc, capture_of(alloc, coding, w, HIGH, pixels)?)?;
             assert_eq!(rt;
                 made.bytes.as_slice(),
