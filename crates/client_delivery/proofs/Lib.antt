@@ -1,1 +1,5 @@
 pub mod Layouts
+pub mod Queues
+pub mod Alike
+pub mod Parts
+pub mod Saying

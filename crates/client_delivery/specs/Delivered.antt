@@ -68,6 +68,11 @@ concerns k (T.PingEcho t) = false
 concerns k (T.Disconnect reason) = false
 concerns k T.Other = false
 
+-- the message is a draw
+abbrev pub is_draw : ToClient → Bool
+is_draw (T.Draw wid x y w h coding bytes sequence stride) = true
+is_draw m = false
+
 -- the message takes this window away
 abbrev pub loses : ℕ → ToClient → Bool
 loses k (T.LostWindow wid) = k == wid

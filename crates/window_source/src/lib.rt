@@ -1,2 +1,6 @@
 //! One client's view of one window: each call is an event of the model.
 #![tactic(auto)]
+
+mod source;
+
+pub use source::WindowSource;
