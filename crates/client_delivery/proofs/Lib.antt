@@ -3,3 +3,7 @@ pub mod Queues
 pub mod Alike
 pub mod Parts
 pub mod Saying
+pub mod Placing
+pub mod Opening
+pub mod Relieving
+pub mod Closing

@@ -1,9 +1,10 @@
 -- The parts of what is kept of an attached client, as a step changes them.
-use Rattle.std.proofs.Common.{◌≡◌, ◌⊎◌, inl, inr, ℕ, Bool, true, false, List, [], ◌∷◌, ◌++◌, Option, Some, None, map, cond, eqb, refl, sym, ap, ◌∙◌, subst}
+use Rattle.std.proofs.Common.{◌≡◌, ◌⊎◌, inl, inr, ℕ, Bool, true, false, List, [], ◌∷◌, ◌++◌, Option, Some, None, map, cond, eqb, refl, sym, ap, ◌∙◌, subst, arith}
 use Rattle.std.specs.Prelude.{is_some}
 use Rattle.std.specs.Option.{option_map}
 use Rattle.std.specs.List.{AllByRecursion}
 use Rattle.std.proofs.lemmas.Bool.{cond-true, cond-false, eqb-true, false≢true}
+use Rattle.std.proofs.lemmas.Bool.Decides.{nat_tests}
 use Rattle.std.proofs.lemmas.List.{append-nil}
 use Rattle.std.proofs.lemmas.Grind.{flat_map-append}
 use Rattle.xp_base.specs.Keyed.{keyed_find, keyed_change, keyed_push, keyed_remove, HasDistinctKeys}
@@ -93,6 +94,9 @@ other_number were_opened j k none some = go (eqb j k) refl
     go false is = is
     go true is = absurd (false≢true (sym none ∙ ap were_opened (eqb-true j k is) ∙ some))
 
+pub own : (k : ℕ) → eqb k k ≡ true
+own k = grind (arith, nat_tests)
+
 -- what is no draw names no window
 pub unnamed : (wid : Option ℕ) (draw : Option Draw) (pixels : List ℕ) (m : ToClient) → is_draw m ≡ false → IsDraw wid draw pixels m → wid ≡ None
 unnamed None draw pixels m plain is = refl
@@ -111,3 +115,39 @@ unnamed (Some k) (Some d) pixels T.Other plain is = absurd is
 -- so it has no relief outside a window
 pub structure_lies : (wide high k : ℕ) (p : Queued) (m : ToClient) → is_draw m ≡ false → Carries (structure p m) → ReliefLies wide high k (structure p m)
 structure_lies wide high k p m plain carries = λ named. absurd (let none = sym named ∙ unnamed p.wid p.draw [] m plain carries.draw in cc none)
+
+-- a draw is on the window that it names, and on no other
+named_as : (j k : ℕ) (w : Waiting) → Carries w → w.packet.wid ≡ Some k → concerns j w.message ≡ eqb j k
+named_as i k w carries named = go w.packet.wid w.packet.draw w.message named carries.draw
+  where
+    go : (wid : Option ℕ) (draw : Option Draw) (m : ToClient) → wid ≡ Some k → IsDraw wid draw w.pixels m → concerns i m ≡ eqb i k
+    go None draw m named is = absurd (cc named)
+    go (Some j) None m named is = absurd is
+    go (Some j) (Some d) (T.Hello caps) named is = absurd is
+    go (Some j) (Some d) (T.NewWindow wid x y w h) named is = absurd is
+    go (Some j) (Some d) (T.LostWindow wid) named is = absurd is
+    go (Some j) (Some d) (T.WindowResized wid w h) named is = absurd is
+    go (Some j) (Some d) (T.WindowMoveResize wid x y w h) named is = absurd is
+    go (Some j) (Some d) (T.RaiseWindow wid) named is = absurd is
+    go (Some j) (Some d) (T.Draw wid x y w h coding bytes sequence stride) named is = ap (eqb i) (sym is.0 ∙ cc named)
+    go (Some j) (Some d) (T.PingEcho t) named is = absurd is
+    go (Some j) (Some d) (T.Disconnect reason) named is = absurd is
+    go (Some j) (Some d) T.Other named is = absurd is
+
+pub named_concerns : (k : ℕ) (w : Waiting) → Carries w → w.packet.wid ≡ Some k → concerns k w.message ≡ true
+named_concerns k w carries named = named_as k k w carries named ∙ own k
+
+pub named_elsewhere : (j k : ℕ) (w : Waiting) → Carries w → w.packet.wid ≡ Some k → eqb j k ≡ false → concerns j w.message ≡ false
+named_elsewhere j k w carries named other = named_as j k w carries named ∙ other
+
+pub loses_concerns : (k : ℕ) (m : ToClient) → concerns k m ≡ false → loses k m ≡ false
+loses_concerns k (T.Hello caps) other = refl
+loses_concerns k (T.NewWindow wid x y w h) other = refl
+loses_concerns k (T.LostWindow wid) other = other
+loses_concerns k (T.WindowResized wid w h) other = refl
+loses_concerns k (T.WindowMoveResize wid x y w h) other = refl
+loses_concerns k (T.RaiseWindow wid) other = refl
+loses_concerns k (T.Draw wid x y w h coding bytes sequence stride) other = refl
+loses_concerns k (T.PingEcho t) other = refl
+loses_concerns k (T.Disconnect reason) other = refl
+loses_concerns k T.Other other = refl

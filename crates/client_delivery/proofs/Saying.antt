@@ -1,4 +1,4 @@
--- What a client says of one window, and the answer to its ping.
+-- What a client says of one window.
 use Rattle.std.proofs.Common.{◌≡◌, ◌⊎◌, inl, inr, ℕ, Bool, true, false, List, [], ◌∷◌, ◌++◌, Option, Some, None, map, cond, eqb, refl, sym, ap, ◌∙◌, subst}
 use Rattle.std.specs.Prelude.{ℤ}
 use Rattle.std.specs.Option.{option_map}
@@ -13,17 +13,13 @@ use Rattle.delivery_model.specs.Window.{Window as Delivery, Packet, Sent}
 use Rattle.delivery_model.specs.Events.{Event, MapWindow, UnmapWindow, Recall, Acknowledge, BufferRefresh, changed, acknowledged_as, rect_sent}
 use Rattle.delivery_model.specs.Kept.{IsKept}
 use Rattle.delivery_model.specs.Laws.{EventsKeepTheForm}
-use Rattle.packet_kinds.specs.declared.to_client.ToClient.TheVariants as T
-use Rattle.packet_kinds.specs.Laws.{MessageHasBytes}
 use Rattle.window_source.specs.Source.{SourceSeen, window_of, source_of, alone, after}
 use Rattle.window_source.specs.Waiting.{Waiting, waits_on, ReliefLies, lossy_shows}
 use Rattle.client_delivery.specs.Attached.{source_key, find_source, grid_of}
 use Rattle.client_delivery.specs.Delivered.{messages_of, IsLaidOut, concerns, loses, delivery, AreOfOneSize, IsDelivered, IsTold}
 use Rattle.client_delivery.specs.Steps.{Quiet, Mapping, Unmapping, GivingBack, Acknowledging, Refreshing, quiet, changes_source, PutsAlone, structure}
-use Rattle.client_delivery.specs.Keeping.{QuietKeeps, AnswerKeeps}
-use Rattle.client_delivery.proofs.Layouts.{laid_push, answers_same}
-use Rattle.client_delivery.proofs.Queues.{put_one, all_append}
-use Rattle.client_delivery.proofs.Parts.{waits_same, changed_cases, sized_changed, structure_lies}
+use Rattle.client_delivery.specs.Keeping.{QuietKeeps}
+use Rattle.client_delivery.proofs.Parts.{changed_cases, sized_changed}
 use Rattle.std.proofs.lemmas.Bool.{eqb-true}
 
 -- the model's event
@@ -130,31 +126,3 @@ quiet_keeps finds keeps form desk were_opened k q a sent told = record {
         subst (λ wide. IsKept (window_of (after (quiet q) s) window.pixels (shown_of window) (waits_on wide (after (quiet q) s).high window.wid told.waiting))) (sym (quiet_sized q s).0)
         (subst (λ high. IsKept (window_of (after (quiet q) s) window.pixels (shown_of window) (waits_on s.wide high window.wid told.waiting))) (sym (quiet_sized q s).1)
         (subst IsKept (sym (quiet_parted q s window.pixels (shown_of window) (waits_on s.wide s.high window.wid told.waiting))) (quiet_kept form q _ kept)))
-
--- an answer is on no window
-pub answer_keeps : MessageHasBytes → AnswerKeeps
-answer_keeps sized desk were_opened t a a' sent put told =
-    subst (λ (sources : List SourceSeen). IsTold desk were_opened (record a' { sources = sources }) sent) (sym put.sources) (record {
-      windows = told.windows;
-      waiting = told.waiting ++ w ∷ [];
-      bytes = put_one sized (T.PingEcho t) a.out a'.out sent told.windows told.waiting put.put told.bytes;
-      delivered = record {
-        laid = subst (IsLaidOut desk told.windows) (sym (map-append (λ (v : Waiting). v.message) told.waiting (w ∷ []))) (laid_push desk desk told.windows (messages_of told.waiting) (T.PingEcho t) (answers_same desk t) d.laid);
-        distinct = d.distinct;
-        sized = d.sized;
-        kept = λ k window s there is. subst (λ (ps : List Packet). IsKept (window_of s window.pixels (option_map grid_of (find_window told.windows window.wid)) ps)) (sym (waits_same s.wide s.high window.wid told.waiting w refl)) (d.kept k window s there is);
-        lies = λ k s is. all_append (ReliefLies s.wide s.high k) told.waiting (w ∷ []) (d.lies k s is) (no_relief s.wide s.high k, tt);
-        absent = λ k none. ((d.absent k none).0, all_append (λ (v : Waiting). concerns k v.message ≡ false) told.waiting (w ∷ []) (d.absent k none).1 (refl, tt));
-        begun = d.begun;
-        stays = λ k there. all_append (λ (v : Waiting). loses k v.message ≡ false) told.waiting (w ∷ []) (d.stays k there) (refl, tt);
-      };
-    })
-  where
-    w : Waiting
-    w = structure put.put.packet (T.PingEcho t)
-
-    d : IsDelivered desk were_opened a.sources told.windows told.waiting
-    d = told.delivered
-
-    no_relief : (wide high k : ℕ) → ReliefLies wide high k w
-    no_relief wide high k = structure_lies wide high k put.put.packet (T.PingEcho t) refl put.put.carries

@@ -32,7 +32,7 @@ pub record IsPainted (r : Rectangle) (window window' : Window) : Type 0 where
   pub outside : (x y : ℕ) → is_within window.w window.h x y ≡ true → is_in r x y ≡ false → number (grid_of window') x y ≡ number (grid_of window) x y
 
 abbrev pub PaintKeeps : Type 0
-PaintKeeps = (desk : List Window) (were_opened : ℕ → Bool) (r : Rectangle) (window window' : Window) (now : ℕ) (a : AttachedSeen) (sent : List ℕ) → find_window desk window.wid ≡ Some window → IsPainted r window window'
+PaintKeeps = (desk : List Window) (were_opened : ℕ → Bool) (r : Rectangle) (window window' : Window) (now : ℕ) (a : AttachedSeen) (sent : List ℕ) → IsDesktop desk → find_window desk window.wid ≡ Some window → IsPainted r window window'
     → IsTold desk were_opened a sent → IsTold (changed_window desk window.wid (λ w. window')) were_opened (changes_source window.wid (damaged r now) a) sent
 
 -- a number is opened for the first time
@@ -46,7 +46,8 @@ OpenKeeps = (desk : List Window) (old new : ℕ → Bool) (wid : ℕ) (x y : ℤ
     → Opens (fresh_window wid x y w h) conn now a a' → IsTold desk old a sent → IsTold (opened desk wid x y w h) new a' sent
 
 abbrev pub CloseKeeps : Type 0
-CloseKeeps = (desk : List Window) (were_opened : ℕ → Bool) (k : ℕ) (a a' : AttachedSeen) (sent : List ℕ) → IsDesktop desk → Closes k a a' → IsTold desk were_opened a sent → IsTold (without_window desk k) were_opened a' sent
+CloseKeeps = (desk : List Window) (were_opened : ℕ → Bool) (window : Window) (a a' : AttachedSeen) (sent : List ℕ) → IsDesktop desk → find_window desk window.wid ≡ Some window
+    → Closes window.wid a a' → IsTold desk were_opened a sent → IsTold (without_window desk window.wid) were_opened a' sent
 
 abbrev pub ResizeKeeps : Type 0
 ResizeKeeps = (desk : List Window) (were_opened : ℕ → Bool) (window : Window) (w h now : ℕ) (a a' : AttachedSeen) (sent : List ℕ) → IsDesktop desk → find_window desk window.wid ≡ Some window

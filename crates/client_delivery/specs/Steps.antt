@@ -19,7 +19,7 @@ use Rattle.client_outbox.specs.Outgoing.{WaitingPacket, Outgoing, with_packet}
 use Rattle.client_outbox.specs.Reliefs.{Emptied, ClippedTo, ReliefsChange}
 use Rattle.client_outbox.specs.Sending.{advanced}
 use Rattle.window_source.specs.Source.{SourceSeen, window_of, source_of, after}
-use Rattle.window_source.specs.Waiting.{Queued, Waiting, Carries, waits_on}
+use Rattle.window_source.specs.Waiting.{Queued, Waiting, Carries, waits_on, ReliefLies}
 use Rattle.client_delivery.specs.Attached.{AttachedSeen, source_key, find_source, started_source}
 use Rattle.client_delivery.specs.Delivered.{messages_of, packets_of}
 use Rattle.client_delivery.specs.Numbered.{numbered_on}
@@ -108,10 +108,14 @@ pub record Files (k number : ℕ) (capture : Captured) (now : ℕ) (a a' : Attac
   pub source : SourceSeen
   pub found : find_source a.sources k ≡ Some source
   pub source' : SourceSeen
+  pub wid_stays : source'.wid ≡ source.wid
+  pub wide_stays : source'.wide ≡ source.wide
+  pub high_stays : source'.high ≡ source.high
   pub sources : a'.sources ≡ keyed_change source_key a.sources k (λ s. source')
   pub drawn : List Waiting
   pub carried : AllByRecursion Carries drawn
   pub own : AllByRecursion (λ (w : Waiting). w.packet.wid ≡ Some k) drawn
+  pub lies : AllByRecursion (ReliefLies source.wide source.high k) drawn
   pub put : a'.out ≡ record a.out { packets = a.out.packets ++ packets_of drawn }
   pub event : (numbers : List ℕ) (client : Option Grid) (packets : List Packet)
       → window_of source' numbers client (packets ++ waits_on source.wide source.high k drawn) ≡ filed number capture now (window_of source numbers client packets)

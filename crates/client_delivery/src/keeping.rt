@@ -18,6 +18,7 @@ ghost use Rattle.client_delivery.specs.Keeping.{
 
 use delivery_model::every_event_keeps_the_form;
 use packet_kinds::{a_message_follows, a_message_has_bytes, nothing_is_shown_at_first, one_window_changes};
+use window_model::Win;
 use window_source::WindowSource;
 use xp_base::{keyed_finds, keyed_keeps};
 
@@ -39,6 +40,9 @@ pub fn each_paint_keeps_what_is_told()
     ensures place { MoveKeeps }
     ensures top { RaiseKeeps }
 {
+    keyed_finds::<Win>();
+    keyed_finds::<WindowSource>();
+    keyed_keeps::<WindowSource>();
     every_event_keeps_the_form();
     a_message_has_bytes();
 }

@@ -1,4 +1,5 @@
-use Rattle.client_delivery.proofs.Saying.{quiet_keeps, answer_keeps}
+use Rattle.client_delivery.proofs.Placing.{answer_keeps}
+use Rattle.client_delivery.proofs.Saying.{quiet_keeps}
 use Rattle.client_delivery.proofs.keeping.what_a_client_says_keeps_what_is_told.Goals as goal
 
 pub returns-clause-window : goal.returns-clause-window

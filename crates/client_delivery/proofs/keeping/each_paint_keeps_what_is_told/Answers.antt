@@ -1,0 +1,16 @@
+use Rattle.client_delivery.proofs.Closing.{close_keeps}
+use Rattle.client_delivery.proofs.Opening.{open_keeps}
+use Rattle.client_delivery.proofs.Placing.{move_keeps, raise_keeps}
+use Rattle.client_delivery.proofs.keeping.each_paint_keeps_what_is_told.Goals as goal
+
+pub returns-clause-place : goal.returns-clause-place
+returns-clause-place c = move_keeps c.keyed_finds.ensures c.a_message_has_bytes.ensures
+
+pub returns-clause-top : goal.returns-clause-top
+returns-clause-top c = raise_keeps c.keyed_finds.ensures c.a_message_has_bytes.ensures
+
+pub returns-clause-open : goal.returns-clause-open
+returns-clause-open c = open_keeps c.keyed_finds-2.ensures c.keyed_finds.ensures c.keyed_keeps.ensures c.every_event_keeps_the_form.ensures c.a_message_has_bytes.ensures
+
+pub returns-clause-close : goal.returns-clause-close
+returns-clause-close c = close_keeps c.keyed_finds-2.ensures c.keyed_finds.ensures c.keyed_keeps.ensures c.a_message_has_bytes.ensures
