@@ -7,3 +7,6 @@ pub mod Placing
 pub mod Opening
 pub mod Relieving
 pub mod Closing
+pub mod Grids
+pub mod Painting
+pub mod Resizing

@@ -1,6 +1,7 @@
 -- The parts of what is kept of an attached client, as a step changes them.
 use Rattle.std.proofs.Common.{◌≡◌, ◌⊎◌, inl, inr, ℕ, Bool, true, false, List, [], ◌∷◌, ◌++◌, Option, Some, None, map, cond, eqb, refl, sym, ap, ◌∙◌, subst, arith}
-use Rattle.std.specs.Prelude.{is_some}
+use Rattle.std.specs.Prelude.{is_some, All}
+use Rattle.std.proofs.lemmas.List.Elements.{All-head, All-tail}
 use Rattle.std.specs.Option.{option_map}
 use Rattle.std.specs.List.{AllByRecursion}
 use Rattle.std.proofs.lemmas.Bool.{cond-true, cond-false, eqb-true, false≢true}
@@ -9,7 +10,7 @@ use Rattle.std.proofs.lemmas.List.{append-nil}
 use Rattle.std.proofs.lemmas.Grind.{flat_map-append}
 use Rattle.xp_base.specs.Keyed.{keyed_find, keyed_change, keyed_push, keyed_remove, HasDistinctKeys}
 use Rattle.xp_base.specs.KeyedLaws.{KeyedFinds, KeyedKeeps}
-use Rattle.window_model.specs.Desktop.{Window, find_window, has_window, changed_window}
+use Rattle.window_model.specs.Desktop.{Window, IsWindow, find_window, has_window, changed_window}
 use Rattle.window_model.specs.Geometry.{Geometry, geometry_of}
 use Rattle.delivery_model.specs.Window.{Packet}
 use Rattle.packet_kinds.specs.declared.to_client.ToClient.{ToClient}
@@ -50,7 +51,10 @@ waits_same wide high k ws w none =
     ∙ ap (λ (ps : List Packet). waits_on wide high k ws ++ (ps ++ [])) none
     ∙ append-nil (waits_on wide high k ws)
 
--- an item of a changed list was there, and was changed where it has the key
+-- an item of a list in which that with key k was changed: it was there, and was changed where it has the key
+abbrev pub Was : {A : Type 0} → ℕ → (A → A) → ℕ → Option A → A → Type 0
+Was {A = A} k f j o a = ((eqb j k ≡ true) × ((old : A) × (o ≡ Some old) × (f old ≡ a))) ⊎ ((eqb j k ≡ false) × (o ≡ Some a))
+
 pub changed_cases : {A : Type 0} (f : A → A) (b : Bool) (o : Option A) (a : A) → cond b (option_map f o) o ≡ Some a
     → ((b ≡ true) × ((old : A) × (o ≡ Some old) × (f old ≡ a))) ⊎ ((b ≡ false) × (o ≡ Some a))
 changed_cases f true None a is = absurd (cc is)
@@ -151,3 +155,12 @@ loses_concerns k (T.Draw wid x y w h coding bytes sequence stride) other = refl
 loses_concerns k (T.PingEcho t) other = refl
 loses_concerns k (T.Disconnect reason) other = refl
 loses_concerns k T.Other other = refl
+
+-- a window that is found is one of them
+pub found_window : (desk : List Window) (k : ℕ) (window : Window) → All IsWindow desk → find_window desk k ≡ Some window → IsWindow window
+found_window [] k window all found = absurd (cc found)
+found_window (w ∷ desk) k window all found = go (eqb w.wid k) found (found_window desk k window (All-tail IsWindow w desk all))
+  where
+    go : (b : Bool) → cond b (Some w) (find_window desk k) ≡ Some window → (find_window desk k ≡ Some window → IsWindow window) → IsWindow window
+    go true found later = subst IsWindow (cc found) (All-head IsWindow w desk all)
+    go false found later = later found

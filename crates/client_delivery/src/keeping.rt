@@ -16,9 +16,9 @@ ghost use Rattle.client_delivery.specs.Keeping.{
   ToldLaysOut,
 };
 
-use delivery_model::every_event_keeps_the_form;
+use delivery_model::{every_event_keeps_the_form, grids_are_their_numbers, points_are_their_tests};
 use packet_kinds::{a_message_follows, a_message_has_bytes, nothing_is_shown_at_first, one_window_changes};
-use window_model::Win;
+use window_model::{Win, drawn_sizes, resized_shows};
 use window_source::WindowSource;
 use xp_base::{keyed_finds, keyed_keeps};
 
@@ -40,6 +40,10 @@ pub fn each_paint_keeps_what_is_told()
     ensures place { MoveKeeps }
     ensures top { RaiseKeeps }
 {
+    grids_are_their_numbers();
+    points_are_their_tests();
+    resized_shows();
+    drawn_sizes();
     keyed_finds::<Win>();
     keyed_finds::<WindowSource>();
     keyed_keeps::<WindowSource>();

@@ -1,3 +1,5 @@
+use Rattle.client_delivery.proofs.Resizing.{Laws, resize_keeps}
+use Rattle.client_delivery.proofs.Painting.{paint_keeps}
 use Rattle.client_delivery.proofs.Closing.{close_keeps}
 use Rattle.client_delivery.proofs.Opening.{open_keeps}
 use Rattle.client_delivery.proofs.Placing.{move_keeps, raise_keeps}
@@ -14,3 +16,16 @@ returns-clause-open c = open_keeps c.keyed_finds-2.ensures c.keyed_finds.ensures
 
 pub returns-clause-close : goal.returns-clause-close
 returns-clause-close c = close_keeps c.keyed_finds-2.ensures c.keyed_finds.ensures c.keyed_keeps.ensures c.a_message_has_bytes.ensures
+
+pub returns-clause-paint : goal.returns-clause-paint
+returns-clause-paint c = paint_keeps c.keyed_finds-2.ensures c.keyed_finds.ensures c.keyed_keeps.ensures c.every_event_keeps_the_form.ensures c.grids_are_their_numbers.ensures.point
+
+pub returns-clause-resize : goal.returns-clause-resize
+returns-clause-resize c = resize_keeps c.keyed_finds-2.ensures c.keyed_finds.ensures c.keyed_keeps.ensures c.a_message_has_bytes.ensures (record {
+  form = c.every_event_keeps_the_form.ensures;
+  numbers = c.grids_are_their_numbers.ensures.point;
+  have = c.points_are_their_tests.ensures.point;
+  alike = c.points_are_their_tests.ensures.alike;
+  shows = c.resized_shows.ensures;
+  sizes = c.drawn_sizes.ensures;
+})
