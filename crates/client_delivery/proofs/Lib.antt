@@ -10,3 +10,6 @@ pub mod Closing
 pub mod Grids
 pub mod Painting
 pub mod Resizing
+pub mod Capturing
+pub mod Filing
+pub mod Writing

@@ -67,6 +67,8 @@ pub fn what_is_drawn_keeps_what_is_told()
     ensures capture { CaptureKeeps }
     ensures file { FileKeeps }
 {
+    keyed_finds::<WindowSource>();
+    keyed_keeps::<WindowSource>();
     every_event_keeps_the_form();
     a_message_has_bytes();
 }
