@@ -83,7 +83,7 @@ lies_elsewhere wide high j k (w ∷ ws) other own = (λ named. absurd (not_both 
     not_both : (a b : ℕ) → eqb a b ≡ false → a ≡ b → ⊥
     not_both a b differs is = eqb-false a b differs is
 
-window_number : (desk : List Window) (j : ℕ) (window : Window) → find_window desk j ≡ Some window → window.wid ≡ j
+pub window_number : (desk : List Window) (j : ℕ) (window : Window) → find_window desk j ≡ Some window → window.wid ≡ j
 window_number [] j window found = absurd (cc found)
 window_number (w ∷ desk) j window found = go (eqb w.wid j) refl found (window_number desk j window)
   where

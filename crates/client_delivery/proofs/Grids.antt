@@ -23,7 +23,7 @@ number_is : (wide high : ℕ) (numbers : List ℕ) (x y : ℕ) → number (pixel
 unfolding number
 number_is wide high numbers x y = refl
 
-place_below : (w h x y : ℕ) → is_within w h x y ≡ true → place_of w x y < w * h
+pub place_below : (w h x y : ℕ) → is_within w h x y ≡ true → place_of w x y < w * h
 place_below w h x y within = let bounds : (x < w) × (y < h) = grind (arith, nat_tests) in mul-add-lt y w x h bounds.1 bounds.0
 
 pub number_at_is : (wide high : ℕ) (numbers : List ℕ) (x y : ℕ) → length numbers ≡ wide * high → is_within wide high x y ≡ true

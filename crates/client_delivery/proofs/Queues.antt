@@ -44,6 +44,7 @@ put_more sized o sent windows waiting ws carried way = record {
   done = way.done;
   sent_is = way.sent_is ∙ ap (λ (bs : List ℕ). way.done ++ bs) (front_stays o.taken o.packets (packets_of ws) way.begun);
   show = way.show;
+  sized = way.sized;
   packets = map-append (λ (w : Waiting). w.packet) waiting ws ∙ ap (λ (ps : List Queued). ps ++ packets_of ws) way.packets;
   carried = all_append Carries waiting ws way.carried carried;
   begun = begun_stays sized o.taken o.packets ws carried way.begun;

@@ -103,6 +103,7 @@ module _ (Becomes : List Rectangle → List Rectangle → Type 0) (k : ℕ) wher
     done = way.done;
     sent_is = way.sent_is ∙ ap (λ (bs : List ℕ). way.done ++ bs) (ap (take o.taken) (sym (same_front o.packets o'.packets change)) ∙ ap (λ n. take n (front_bytes o'.packets)) (sym taken));
     show = way.show;
+    sized = way.sized;
     packets = packets_then ws o'.packets there;
     carried = all_carry ws (repacked ws o'.packets) (relieved ws o'.packets there) way.carried;
     begun = subst (IsBegun o'.packets) (sym taken) (same_begun o.taken o.packets o'.packets change way.begun);

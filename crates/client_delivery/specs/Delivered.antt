@@ -1,6 +1,6 @@
 -- What is kept of an attached client and the bytes sent to it: each window is the model's, so each pixel in which the client's
 -- picture of these bytes differs from the desktop is owed.
-use Rattle.std.specs.Prelude.{ℕ, ◌≡◌, ◌==◌, Bool, true, false, Option, Some, None, List, [], ◌∷◌, ◌++◌, map, take}
+use Rattle.std.specs.Prelude.{ℕ, ◌≡◌, ◌==◌, Bool, true, false, Option, Some, None, List, [], ◌∷◌, ◌++◌, ◌*◌, length, map, take}
 use Rattle.std.specs.List.{AllByRecursion}
 use Rattle.std.specs.Option.{option_map, option_and_then}
 use Rattle.xp_base.specs.Keyed.{HasDistinctKeys}
@@ -35,12 +35,17 @@ abbrev pub front_bytes : List Queued → List ℕ
 front_bytes [] = []
 front_bytes (p ∷ packets) = p.bytes
 
+-- a window has as many pixels as its size says
+abbrev pub IsSized : Window → Type 0
+IsSized window = length window.pixels ≡ window.w * window.h
+
 -- The bytes sent are whole packets, which show these windows, and then what was taken of the first packet that waits; the packets
 -- that wait carry these messages.
 pub record IsOnItsWay (out : Outgoing (List Rectangle)) (sent : List ℕ) (windows : List Window) (waiting : List Waiting) : Type 0 where
   pub done : List ℕ
   pub sent_is : sent ≡ done ++ take out.taken (front_bytes out.packets)
   pub show : Show client_limit done windows
+  pub sized : AllByRecursion IsSized windows
   pub packets : packets_of waiting ≡ out.packets
   pub carried : AllByRecursion Carries waiting
   pub begun : IsBegun out.packets out.taken

@@ -18,7 +18,7 @@ ghost use Rattle.client_delivery.specs.Keeping.{
 
 use delivery_model::{every_event_keeps_the_form, grids_are_their_numbers, points_are_their_tests};
 use packet_kinds::{a_message_follows, a_message_has_bytes, nothing_is_shown_at_first, one_window_changes};
-use window_model::{Win, drawn_sizes, resized_shows};
+use window_model::{Win, blank_shows, drawn_sizes, placed_shows, resized_shows};
 use window_source::WindowSource;
 use xp_base::{keyed_finds, keyed_keeps};
 
@@ -77,6 +77,12 @@ pub fn what_is_drawn_keeps_what_is_told()
 pub fn each_write_keeps_what_is_told()
     ensures { WriteKeeps }
 {
+    grids_are_their_numbers();
+    blank_shows();
+    placed_shows();
+    resized_shows();
+    drawn_sizes();
+    a_message_has_bytes();
     every_event_keeps_the_form();
     a_message_follows();
     one_window_changes();
