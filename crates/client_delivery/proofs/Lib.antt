@@ -13,3 +13,4 @@ pub mod Resizing
 pub mod Capturing
 pub mod Filing
 pub mod Writing
+pub mod Attaching
