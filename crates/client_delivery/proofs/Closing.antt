@@ -50,8 +50,11 @@ module _ (source_finds : KeyedFinds SourceSeen) (window_finds : KeyedFinds Windo
           kept = λ j window' s left found. kept j window' s (left_cases (eqb j k) (find_window desk j) window' (sym (window_at j) ∙ left)) (left_cases (eqb j k) (find_source a.sources j) s (sym (source_at j) ∙ found));
           lies = λ j s found. all_append (ReliefLies s.wide s.high j) vs (v ∷ []) (lies j s (left_cases (eqb j k) (find_source a.sources j) s (sym (source_at j) ∙ found)))
               (structure_lies s.wide s.high j closes.put.packet (T.LostWindow k) refl closes.put.carries, tt);
-          absent = λ j none. ((d.absent j none).0, all_append (λ (u : Waiting). concerns j u.message ≡ false) vs (v ∷ [])
-              (all_messages (Emptied has) k (λ m. concerns j m ≡ false) told.waiting vs change (d.absent j none).1) (other_number were_opened j k none opened, tt));
+          absent = λ j none. (
+            (d.absent j none).0,
+            all_append (λ (u : Waiting). concerns j u.message ≡ false) vs (v ∷ [])
+                (all_messages (Emptied has) k (λ m. concerns j m ≡ false) told.waiting vs change (d.absent j none).1) (other_number were_opened j k none opened, tt),
+          );
           begun = λ j left. d.begun j (was_there j (eqb j k) left).1;
           stays = λ j left. let was = was_there j (eqb j k) left in
               all_append (λ (u : Waiting). loses j u.message ≡ false) vs (v ∷ []) (all_messages (Emptied has) k (λ m. loses j m ≡ false) told.waiting vs change (d.stays j was.1)) (was.0, tt);

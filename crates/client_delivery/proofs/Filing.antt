@@ -104,8 +104,11 @@ module _ (finds : KeyedFinds SourceSeen) (keeps : KeyedKeeps SourceSeen) (form :
           sized = λ j. subst (AreOfOneSize (find_window desk j)) (sym (source_at j)) (sized_changed f (λ s. (refl, refl)) (find_window desk j) (eqb j k) (find_source a.sources j) (d.sized j));
           kept = λ j window s there found. kept j window s there (changed_cases f (eqb j k) (find_source a.sources j) s (sym (source_at j) ∙ found));
           lies = λ j s found. lies j s (changed_cases f (eqb j k) (find_source a.sources j) s (sym (source_at j) ∙ found));
-          absent = λ j none. ((d.absent j none).0, all_append (λ (u : Waiting). concerns j u.message ≡ false) told.waiting files.drawn (d.absent j none).1
-              (none_concerned j k files.drawn (other_number were_opened j k none opened) files.carried files.own));
+          absent = λ j none. (
+            (d.absent j none).0,
+            all_append (λ (u : Waiting). concerns j u.message ≡ false) told.waiting files.drawn (d.absent j none).1
+                (none_concerned j k files.drawn (other_number were_opened j k none opened) files.carried files.own),
+          );
           begun = d.begun;
           stays = λ j there. all_append (λ (u : Waiting). loses j u.message ≡ false) told.waiting files.drawn (d.stays j there) (none_lost desk j k files.drawn files.carried files.own);
         };

@@ -137,6 +137,7 @@ module _ (laws : Laws) (k w0 h0 w h : ℕ) where
           let was : u.packet.wid ≡ Some k = sym (ap (λ (q : Queued). q.wid) change.0.1.kept) ∙ named in
           let clipped = change.0.1.changed (ap (λ (o : Option ℕ). is_named o k) was ∙ own k) in
           both_right (has_point u.packet.relief x y) (is_within w h x y) (sym (clipped x y) ∙ has)
+
 -- the model's window after the resize
 resized_kept : (laws : Laws) (k w h now : ℕ) (s : SourceSeen) (pixels : List ℕ) (client : Option Grid) (ws vs : List Waiting) (v : Waiting) → length pixels ≡ s.wide * s.high
     → Relieved (ClippedTo has_point w h) k ws vs → AllByRecursion Carries ws → AllByRecursion (ReliefLies s.wide s.high k) ws → says_to w h k v v.message ≡ WindowResized w h ∷ []
@@ -197,8 +198,11 @@ module _ (source_finds : KeyedFinds SourceSeen) (window_finds : KeyedFinds Windo
           kept = λ j u s left found. kept j u s (changed_cases (resized_window w h) (eqb j k) (find_window desk j) u (sym (window_at j) ∙ left)) (changed_cases size (eqb j k) (find_source a.sources j) s (sym (source_at j) ∙ found));
           lies = λ j s found. all_append (ReliefLies s.wide s.high j) vs (v ∷ []) (lies j s (changed_cases size (eqb j k) (find_source a.sources j) s (sym (source_at j) ∙ found)))
               (structure_lies s.wide s.high j resizes.put.packet m refl resizes.put.carries, tt);
-          absent = λ j none. ((d.absent j none).0, all_append (λ (u : Waiting). concerns j u.message ≡ false) vs (v ∷ [])
-              (all_messages (ClippedTo has_point w h) k (λ n. concerns j n ≡ false) told.waiting vs change (d.absent j none).1) (other_number were_opened j k none opened, tt));
+          absent = λ j none. (
+            (d.absent j none).0,
+            all_append (λ (u : Waiting). concerns j u.message ≡ false) vs (v ∷ [])
+                (all_messages (ClippedTo has_point w h) k (λ n. concerns j n ≡ false) told.waiting vs change (d.absent j none).1) (other_number were_opened j k none opened, tt),
+          );
           begun = λ j left. d.begun j (was_there j left);
           stays = λ j left. all_append (λ (u : Waiting). loses j u.message ≡ false) vs (v ∷ []) (all_messages (ClippedTo has_point w h) k (λ n. loses j n ≡ false) told.waiting vs change (d.stays j (was_there j left))) (refl, tt);
         };

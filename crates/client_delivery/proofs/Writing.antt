@@ -144,8 +144,8 @@ module _ (laws : Laws) where
       → LooksLike (Some (grid_of (placed_window d.rect shown_pixels c))) (applied lossy_shows (Some (grid_of c)) (Draws (record { sequence = d.sequence; capture = record { rect = d.rect; coding = d.coding; pixels = pixels }; relief = relief })))
   drawn_looks c d relief shown_pixels pixels sized full shows = same_numbers c.w c.h (placed c.w d.rect shown_pixels c.pixels) _ (λ x y within.
       some_same _ _ (sym (number_at_is c.w c.h (placed c.w d.rect shown_pixels c.pixels) x y (laws.sizes.placing c.w d.rect shown_pixels c.pixels ∙ sized) within)
-          ∙ laws.placed c.w c.h d.rect shown_pixels c.pixels x y sized (ap length shows ∙ length-map pixels (shown lossy_shows d.coding) ∙ full) within
-          ∙ go x y within (is_in d.rect x y) refl)
+      ∙ laws.placed c.w c.h d.rect shown_pixels c.pixels x y sized (ap length shows ∙ length-map pixels (shown lossy_shows d.coding) ∙ full) within
+      ∙ go x y within (is_in d.rect x y) refl)
       ∙ sym (laws.numbers c.w c.h (after) x y within))
     where
       after : ℕ → ℕ → ℕ
@@ -165,7 +165,6 @@ module _ (laws : Laws) where
           → cond (is_in d.rect x y) (number_at d.rect.w d.rect.h shown_pixels (x - d.rect.x) (y - d.rect.y)) (number_at c.w c.h c.pixels x y) ≡ Some (after x y)
       go x y within true is = cond-true (is_in d.rect x y) _ _ is ∙ drawn x y is ∙ ap (λ n. Some n) (sym (cond-true (is_in d.rect x y) _ (number (grid_of c) x y) is))
       go x y within false is = cond-false (is_in d.rect x y) _ _ is ∙ number_at_is c.w c.h c.pixels x y sized within ∙ ap (λ n. Some n) (sym (cond-false (is_in d.rect x y) (shown lossy_shows d.coding (number_in d.rect pixels x y)) _ is))
-
 
   -- the first packet was written, and the client's window is what it makes of it
   one_written : (k : ℕ) (s : SourceSeen) (pixels : List ℕ) (client : Option Window) (w : Waiting) (m : ToClient) (rest : List Packet) → SizedWhere client → IsDraw w.packet.wid w.packet.draw w.pixels m → loses k m ≡ false

@@ -17,10 +17,10 @@ ghost use Rattle.client_delivery.specs.Keeping.{
 };
 
 use delivery_model::{every_event_keeps_the_form, grids_are_their_numbers, points_are_their_tests};
-use packet_kinds::{a_message_follows, a_message_has_bytes, nothing_is_shown_at_first, one_window_changes};
-use window_model::{Win, blank_shows, drawn_sizes, placed_shows, resized_shows};
-use window_source::WindowSource;
-use xp_base::{keyed_finds, keyed_keeps};
+use packet_kinds::{
+    a_message_follows, a_message_has_bytes, nothing_is_shown_at_first, one_window_changes,
+};
+use window_model::{blank_shows, drawn_sizes, placed_shows, resized_shows};
 
 /// A client that was just attached, and to which nothing was sent yet.
 pub fn a_client_that_attaches_is_told()
@@ -44,9 +44,6 @@ pub fn each_paint_keeps_what_is_told()
     points_are_their_tests();
     resized_shows();
     drawn_sizes();
-    keyed_finds::<Win>();
-    keyed_finds::<WindowSource>();
-    keyed_keeps::<WindowSource>();
     every_event_keeps_the_form();
     a_message_has_bytes();
 }
@@ -56,8 +53,6 @@ pub fn what_a_client_says_keeps_what_is_told()
     ensures window { QuietKeeps }
     ensures ping { AnswerKeeps }
 {
-    keyed_finds::<WindowSource>();
-    keyed_keeps::<WindowSource>();
     every_event_keeps_the_form();
     a_message_has_bytes();
 }
@@ -67,8 +62,6 @@ pub fn what_is_drawn_keeps_what_is_told()
     ensures capture { CaptureKeeps }
     ensures file { FileKeeps }
 {
-    keyed_finds::<WindowSource>();
-    keyed_keeps::<WindowSource>();
     every_event_keeps_the_form();
     a_message_has_bytes();
 }
