@@ -34,6 +34,3 @@ pub use packet::{Announcement, Draw, Packet};
 pub use points::Points;
 pub use source::Source;
 pub use text::Text;
-
-#[cfg(test)]
-mod tests;
