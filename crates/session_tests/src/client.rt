@@ -3,8 +3,8 @@
 use client_connection::messages::{draw_packet, new_window_packet, server_hello_packet};
 use client_connection::wire::map_window_packet;
 use client_connection::{Captured, Client, End, Geometry, Sent, Trouble};
+use first_script::Paint;
 use link_bay::{Accept, Bay, EXACT_HELLO, Kind, Name, OneBay, Order};
-use paint_script::Paint;
 use std::alloc::Global;
 use std::test::Fail;
 use window_model::Desk;

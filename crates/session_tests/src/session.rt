@@ -1,7 +1,7 @@
 // The session.
 
+use first_script::{Paints, ScriptRead, read_script};
 use link_bay::{Kind, Name, OneBay, Order};
-use paint_script::{Paints, ScriptRead, read_script};
 use session_core::{Accepted, Captured, End, How, Painted, Received, Sent, Session};
 use std::alloc::Global;
 use std::test::Fail;

@@ -23,6 +23,10 @@ is_in r x y = (nat_le r.x x && nat_lt x (r.x + r.w)) && (nat_le r.y y && nat_lt 
 abbrev pub is_within : ℕ → ℕ → ℕ → ℕ → Bool
 is_within w h x y = nat_lt x w && nat_lt y h
 
+-- a window of the size w0 by h0 gets the size w by h: the point is in both, so that it keeps its pixel
+abbrev pub survives : ℕ → ℕ → ℕ → ℕ → ℕ → ℕ → Bool
+survives w0 h0 w h x y = is_within w0 h0 x y && is_within w h x y
+
 -- the rectangle lies in a window of this size
 pub record LiesIn (w h : ℕ) (r : Rectangle) : Type 0 where
   pub across : r.x + r.w ≤ w

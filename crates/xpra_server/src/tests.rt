@@ -1,7 +1,7 @@
 use crate::calls::{Outcome, top};
 use crate::dry_bay::DryBay;
+use first_script::{Script, ScriptRead, read_script};
 use link_bay::{Kind, MuteBay, Name, OneBay, Order, PassingBay, TapeBay};
-use paint_script::{Script, ScriptRead, read_script};
 use session_core::{Accepted, End, Session};
 use std::alloc::Global;
 use std::test::Fail;

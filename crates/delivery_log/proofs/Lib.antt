@@ -1,0 +1,4 @@
+pub mod Traces
+pub mod Logs
+pub mod Lists
+pub mod Seeing
