@@ -4,9 +4,9 @@
 
 #[cfg(test)]
 mod base;
-
+#[cfg(test)]
+mod bays;
 #[cfg(test)]
 mod first_scripts;
-
 #[cfg(test)]
 mod windows;

@@ -1,6 +1,8 @@
-use super::*;
-use crate::messages::{draw_packet, new_window_packet, server_hello_packet};
-use crate::wire::map_window_packet;
+// One open connection's client.
+
+use client_connection::messages::{draw_packet, new_window_packet, server_hello_packet};
+use client_connection::wire::map_window_packet;
+use client_connection::{Captured, Client, End, Geometry, Sent, Trouble};
 use first_script::Paint;
 use link_bay::{Accept, Bay, EXACT_HELLO, Kind, Name, OneBay, Order};
 use std::alloc::Global;

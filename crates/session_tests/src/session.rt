@@ -1,6 +1,8 @@
-use super::*;
+// The session.
+
 use first_script::{Paints, ScriptRead, read_script};
 use link_bay::{Kind, Name, OneBay, Order};
+use session_core::{Accepted, Captured, End, How, Painted, Received, Sent, Session};
 use std::alloc::Global;
 use std::test::Fail;
 use xp_base::{Conn, Wid};
@@ -58,40 +60,42 @@ fn session_of(alloc: Global, text: &[u8]) -> Result<Session<OneBay>, Fail> {
     }
 }
 
+/// A client is shown a window step by step.
+const STEPS: &[(Call, Told)] = &[
+    (Call::Paint, Told::Painted(Painted::Done)),
+    (Call::Receive, Told::Received(Received::Closed)),
+    (Call::Accept, Told::Accepted(Accepted::Conn(Conn(0)))),
+    (Call::Accept, Told::Accepted(Accepted::Full)),
+    (Call::Send(100), Told::Sent(Sent::Idle)),
+    (Call::Owes(0, 0), Told::Owes(false)),
+    (Call::Receive, Told::Received(Received::Took(39))),
+    (Call::Receive, Told::Received(Received::Again)),
+    (Call::Owes(1, 1), Told::Owes(true)),
+    (Call::Owes(2, 1), Told::Owes(false)),
+    (Call::Capture, Told::Captured(Captured::Unmapped)),
+    (Call::Send(5), Told::Sent(Sent::Took(5))),
+    (Call::Send(100), Told::Sent(Sent::Took(78))),
+    (Call::Send(100), Told::Sent(Sent::Took(40))),
+    (Call::Send(100), Told::Sent(Sent::Idle)),
+    (Call::Receive, Told::Received(Received::Took(38))),
+    (Call::Paint, Told::Painted(Painted::Done)),
+    (Call::Paint, Told::Painted(Painted::Finished)),
+    (Call::Capture, Told::Captured(Captured::Jobs(1))),
+    (Call::Capture, Told::Captured(Captured::Clean)),
+    (Call::Send(90), Told::Sent(Sent::Took(90))),
+    (Call::Owes(0, 0), Told::Owes(true)),
+    (Call::Send(90), Told::Sent(Sent::Took(1))),
+    (Call::Owes(0, 0), Told::Owes(false)),
+];
+
 #[test]
 fn a_client_is_shown_a_window_step_by_step(rt: HostRuntime) -> Result<(), Fail> {
     let alloc = rt.alloc();
     let mut session = session_of(alloc, b"open 1 0 0 2 2\nfill 1 0 0 2 2 ff0000\n")?;
     let wid = Wid::new(1).ok_or("a window's number")?;
-    let calls = [
-        (Call::Paint, Told::Painted(Painted::Done)),
-        (Call::Receive, Told::Received(Received::Closed)),
-        (Call::Accept, Told::Accepted(Accepted::Conn(Conn(0)))),
-        (Call::Accept, Told::Accepted(Accepted::Full)),
-        (Call::Send(100), Told::Sent(Sent::Idle)),
-        (Call::Owes(0, 0), Told::Owes(false)),
-        (Call::Receive, Told::Received(Received::Took(39))),
-        (Call::Receive, Told::Received(Received::Again)),
-        (Call::Owes(1, 1), Told::Owes(true)),
-        (Call::Owes(2, 1), Told::Owes(false)),
-        (Call::Capture, Told::Captured(Captured::Unmapped)),
-        (Call::Send(5), Told::Sent(Sent::Took(5))),
-        (Call::Send(100), Told::Sent(Sent::Took(78))),
-        (Call::Send(100), Told::Sent(Sent::Took(40))),
-        (Call::Send(100), Told::Sent(Sent::Idle)),
-        (Call::Receive, Told::Received(Received::Took(38))),
-        (Call::Paint, Told::Painted(Painted::Done)),
-        (Call::Paint, Told::Painted(Painted::Finished)),
-        (Call::Capture, Told::Captured(Captured::Jobs(1))),
-        (Call::Capture, Told::Captured(Captured::Clean)),
-        (Call::Send(90), Told::Sent(Sent::Took(90))),
-        (Call::Owes(0, 0), Told::Owes(true)),
-        (Call::Send(90), Told::Sent(Sent::Took(1))),
-        (Call::Owes(0, 0), Told::Owes(false)),
-    ];
-    for (call, want) in calls {
-        let told = made(&mut session, wid, call);
-        assert_eq!(rt; told, want, "{call:?}");
+    for (call, want) in STEPS {
+        let told = made(&mut session, wid, *call);
+        assert_eq!(rt; told, *want, "{call:?}");
     }
     let calm = session.settle();
     assert_eq!(rt; calm.how, How::Settled);
