@@ -44,21 +44,21 @@ module _ {R : Type 0} where
   absent_encoded [] k e m none = refl
   absent_encoded (j ∷ jobs) k e m none = grind (arith, nat_tests, absent_encoded jobs k e m)
 
+  distinct_one : (j : HeldJob R) (jobs rest : List (HeldJob R)) (k : ℕ) (e : Encoding) (b : Bool) → nat_eq j.number k ≡ b → AreDistinct (j ∷ jobs) → job_of rest j.number ≡ None → AreDistinct rest → rest ≡ with_encoding jobs k e → AreDistinct (with_encoding (j ∷ jobs) k e)
+  distinct_one j jobs rest k e true same distinct none others is = rw same distinct
+  distinct_one j jobs rest k e false differs distinct none others is = rw (differs, ← is) (none, others)
+
   distinct_encoded : (jobs : List (HeldJob R)) (k : ℕ) (e : Encoding) → AreDistinct jobs → AreDistinct (with_encoding jobs k e)
   distinct_encoded [] k e distinct = tt
-  distinct_encoded (j ∷ jobs) k e distinct = go (nat_eq j.number k) refl
-    where
-      go : (b : Bool) → nat_eq j.number k ≡ b → AreDistinct (with_encoding (j ∷ jobs) k e)
-      go true same = rw same distinct
-      go false differs = rw differs (absent_encoded jobs k e j.number distinct.0, distinct_encoded jobs k e distinct.1)
+  distinct_encoded (j ∷ jobs) k e distinct = distinct_one j jobs (with_encoding jobs k e) k e (nat_eq j.number k) refl distinct (absent_encoded jobs k e j.number distinct.0) (distinct_encoded jobs k e distinct.1) refl
+
+  small_one : (j : HeldJob R) (jobs rest : List (HeldJob R)) (k : ℕ) (e : Encoding) (b : Bool) → nat_eq j.number k ≡ b → AreSmall (j ∷ jobs) → AreSmall rest → rest ≡ with_encoding jobs k e → AreSmall (with_encoding (j ∷ jobs) k e)
+  small_one j jobs rest k e true same small others is = rw same small
+  small_one j jobs rest k e false differs small others is = rw (differs, ← is) (small.0, others)
 
   small_encoded : (jobs : List (HeldJob R)) (k : ℕ) (e : Encoding) → AreSmall jobs → AreSmall (with_encoding jobs k e)
   small_encoded [] k e small = tt
-  small_encoded (j ∷ jobs) k e small = go (nat_eq j.number k) refl
-    where
-      go : (b : Bool) → nat_eq j.number k ≡ b → AreSmall (with_encoding (j ∷ jobs) k e)
-      go true same = rw same small
-      go false differs = rw differs (small.0, small_encoded jobs k e small.1)
+  small_encoded (j ∷ jobs) k e small = small_one j jobs (with_encoding jobs k e) k e (nat_eq j.number k) refl small (small_encoded jobs k e small.1) refl
 
   length_encoded : (jobs : List (HeldJob R)) (k : ℕ) (e : Encoding) → length (with_encoding jobs k e) ≡ length jobs
   length_encoded [] k e = refl

@@ -1,8 +1,8 @@
 -- Walks through the jobs in hand, up to a place and on from it.
-use Rattle.std.proofs.Common.{◌≡◌, ℕ, ◌+◌, ◌-◌, ◌<◌, ◌≤◌, Bool, true, false, List, [], ◌∷◌, ◌++◌, length, take, drop, get_or, set, Some, None, refl, sym, ◌∙◌, ap, arith}
+use Rattle.std.proofs.Common.{◌≡◌, ℕ, ◌+◌, ◌-◌, ◌<◌, ◌≤◌, Bool, true, false, List, [], ◌∷◌, ◌++◌, length, take, drop, get_or, set, Some, None, refl, sym, ◌∙◌, ap, arith, add-one}
 use Rattle.std.specs.Prelude.{nat_eq}
 use Rattle.std.proofs.lemmas.Bool.Decides.{nat_tests}
-use Rattle.std.proofs.lemmas.List.{append-nil, take-append-drop, take_all, take_more, drop_more, drop_all, set_split, get_or_default}
+use Rattle.std.proofs.lemmas.List.{append-nil, take-append-drop, take_all, take_more, drop_more, drop_all, set_split, set-get_or, get_or_default}
 use Rattle.rgb_encoders.specs.Encoding.{Encoding}
 use Rattle.draw_sequencer.specs.InHand.{HeldJob, job_of, is_ready, count_leaving}
 use Rattle.draw_sequencer.specs.Filing.{with_encoding}
@@ -78,5 +78,9 @@ module _ {R : Type 0} where
 
   pub encoded_at : (jobs : List (HeldJob R)) (k i : ℕ) (x : HeldJob R) (e : Encoding) → IsPlaceOf jobs k i → x ≡ get_or jobs i x → set jobs i (record x { encoded = Some e }) ≡ with_encoding jobs k e
   encoded_at jobs k i x e place read =
-      let written : set jobs i (record x { encoded = Some e }) ≡ take i jobs ++ record x { encoded = Some e } ∷ drop (i + 1) jobs = set_split jobs i (record x { encoded = Some e }) place.within in
+      let written : set jobs i (record x { encoded = Some e }) ≡ take i jobs ++ record x { encoded = Some e } ∷ drop (i + 1) jobs = rw add-one (set_split jobs i (record x { encoded = Some e }) place.within) in
       written ∙ sym (ap (λ (l : List (HeldJob R)). with_encoding l k e) (split_at jobs i x place.within read) ∙ encoded_behind (take i jobs) x (drop (i + 1) jobs) k e place.before (number_same x k (place.here x read)))
+
+  -- writing back what was read changes nothing
+  pub set_same : (jobs : List (HeldJob R)) (i : ℕ) (x : HeldJob R) → x ≡ get_or jobs i x → set jobs i x ≡ jobs
+  set_same jobs i x read = ap (λ (j : HeldJob R). set jobs i j) read ∙ set-get_or jobs i x

@@ -86,6 +86,14 @@ impl<R: Points> Sequencer<R> {
         self.jobs.get(k as usize)
     }
 
+    /// The job in hand with this number. `None` exactly where there is none.
+    pub fn find(&self, id: JobId) -> Option<&InHand<R>>
+        ensures { MatchOption result (job_of self.now.jobs id.0 ≡ None) (λ j. job_of self.now.jobs id.0 ≡ Some j.now) }
+    {
+        let place = self.place(id)?;
+        Some(&self.jobs[place])
+    }
+
     /// How many jobs `pop_ready` would give in a row if the job with this number had its encoding.
     pub fn leaving(&self, id: JobId) -> u32
         ensures { result ≡ count_leaving self.now.jobs id.0 }

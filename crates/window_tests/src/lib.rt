@@ -3,10 +3,16 @@
 #![tactic(auto)]
 
 #[cfg(test)]
+mod acks;
+
+#[cfg(test)]
 mod base;
+
 #[cfg(test)]
 mod bays;
+
 #[cfg(test)]
 mod first_scripts;
+
 #[cfg(test)]
 mod windows;
