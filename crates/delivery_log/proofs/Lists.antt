@@ -73,6 +73,9 @@ any_there : (front rest : List Recorded) (c : Recorded) → list_any (λ (d : Re
 any_there [] rest c = rw (eq-eqb c.number c.number refl) refl
 any_there (d ∷ front) rest c = grind (arith, nat_tests, any_there front rest c)
 
+pub captured_there : (log : List Entry) (front rest : List Recorded) (c : Recorded) → captured_jobs log ≡ front ++ c ∷ rest → list_any (is_capture c.number) log ≡ true
+captured_there log front rest c is = captures_as c.number log ∙ (ap (λ (cs : List Recorded). list_any (λ (d : Recorded). nat_eq d.number c.number) cs) is ∙ any_there front rest c)
+
 still_captured : (log more : List Entry) (ks : List ℕ) → All (λ (k : ℕ). list_any (is_capture k) log ≡ true) ks → All (λ (k : ℕ). list_any (is_capture k) (log ++ more) ≡ true) ks
 still_captured log more ks all = All-weaker (λ (k : ℕ). list_any (is_capture k) log ≡ true) (λ (k : ℕ). list_any (is_capture k) (log ++ more) ≡ true)
     (λ k is. any_entry-append (is_capture k) log more ∙ grind (arith, nat_tests)) ks all

@@ -47,6 +47,12 @@ pub all_numbers : (P : ℕ → Type 0) (ks : List ℕ) → ((k : ℕ) → P k) �
 all_numbers P [] each = All-nil P
 all_numbers P (k ∷ ks) each = All-cons P k ks (each k) (all_numbers P ks each)
 
+pub all_parts : (P : ℕ → Type 0) (ks js : List ℕ) → All P (ks ++ js) → All P ks × All P js
+all_parts P [] js all = (All-nil P, all)
+all_parts P (k ∷ ks) js all =
+    let rest = all_parts P ks js (All-tail P k (ks ++ js) all) in
+    (All-cons P k ks (All-head P k (ks ++ js) all) rest.0, rest.1)
+
 pub uncaptured_all : (more : List Entry) → captured_jobs more ≡ [] → (k : ℕ) → list_any (is_capture k) more ≡ false
 uncaptured_all more none k = captures_as k more ∙ (rw none refl)
 
