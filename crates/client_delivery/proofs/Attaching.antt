@@ -105,7 +105,7 @@ laid_desk (w ∷ rest) front ms apart other laid =
     ]
 
 -- the source of a window, as it begins
-found_started : (conn now : ℕ) (desk : List Window) (j : ℕ) → find_source (map (started_source conn now) desk) j ≡ option_map (started_source conn now) (find_window desk j)
+pub found_started : (conn now : ℕ) (desk : List Window) (j : ℕ) → find_source (map (started_source conn now) desk) j ≡ option_map (started_source conn now) (find_window desk j)
 found_started conn now [] j = refl
 found_started conn now (w ∷ desk) j = go (eqb w.wid j) (found_started conn now desk j)
   where
@@ -156,7 +156,7 @@ waits_announced wide high k (w ∷ desk) (v ∷ ws) apart is =
     go false other = rw other refl
 
 -- what holds of the hello and of each announcement holds of each message
-all_announced : (P : ToClient → Type 0) (desk : List Window) (ws : List Waiting) → messages_of ws ≡ map announces desk → ((w : Window) → has_window desk w.wid ≡ true → P (announces w))
+pub all_announced : (P : ToClient → Type 0) (desk : List Window) (ws : List Waiting) → messages_of ws ≡ map announces desk → ((w : Window) → has_window desk w.wid ≡ true → P (announces w))
     → (all : List Window) → ((k : ℕ) → has_window desk k ≡ true → has_window all k ≡ true) → AllByRecursion (λ (v : Waiting). P v.message) ws
 all_announced P [] [] is each all more = tt
 all_announced P [] (v ∷ ws) is each all more = absurd (cc is)

@@ -34,7 +34,7 @@ busy_append (NewWindow w h ∷ xs) ys = busy_append xs ys
 busy_append (WindowResized w h ∷ xs) ys = busy_append xs ys
 busy_append (Draws d ∷ xs) ys = refl
 
-same_test : (a b : ℕ) → eqb a b ≡ eqb b a
+pub same_test : (a b : ℕ) → eqb a b ≡ eqb b a
 same_test a b = grind (arith, nat_tests)
 
 -- what is no draw names no window, and so is none by its number

@@ -14,3 +14,4 @@ pub mod Capturing
 pub mod Filing
 pub mod Writing
 pub mod Attaching
+pub mod Numberings

@@ -25,7 +25,7 @@ use Rattle.client_delivery.proofs.Queues.{put_one, all_append, all_weaker}
 use Rattle.client_delivery.proofs.Parts.{waits_append, waits_same, waits_for_nothing, source_there, structure_lies, some_there, own, named_concerns, loses_concerns}
 
 -- an item was there, or is the new one
-pushed_cases : {A : Type 0} (b : Bool) (new : A) (o : Option A) (a : A) → cond b (Some new) o ≡ Some a → ((b ≡ true) × (new ≡ a)) ⊎ ((b ≡ false) × (o ≡ Some a))
+pub pushed_cases : {A : Type 0} (b : Bool) (new : A) (o : Option A) (a : A) → cond b (Some new) o ≡ Some a → ((b ≡ true) × (new ≡ a)) ⊎ ((b ≡ false) × (o ≡ Some a))
 pushed_cases true new o a is = inl (refl, cc is)
 pushed_cases false new o a is = inr (refl, is)
 
