@@ -15,3 +15,5 @@ pub mod Filing
 pub mod Writing
 pub mod Attaching
 pub mod Numberings
+pub mod Relieves
+pub mod Differing

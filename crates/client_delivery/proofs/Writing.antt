@@ -258,7 +258,7 @@ sized_without (x ∷ xs) k all = go (eqb x.wid k) (sized_without xs k all.1)
     go true later = later
     go false later = (all.0, later)
 
-sized_found : (xs : List Window) (k : ℕ) → AllByRecursion IsSized xs → SizedWhere (find_window xs k)
+pub sized_found : (xs : List Window) (k : ℕ) → AllByRecursion IsSized xs → SizedWhere (find_window xs k)
 sized_found [] k all = tt
 sized_found (x ∷ xs) k all = go (eqb x.wid k) (sized_found xs k all.1)
   where

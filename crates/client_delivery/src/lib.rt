@@ -3,6 +3,7 @@
 
 mod keeping;
 mod numbering;
+mod owing;
 
 pub use keeping::{
     a_client_that_attaches_is_told, each_paint_keeps_what_is_told, each_write_keeps_what_is_told,
@@ -12,3 +13,4 @@ pub use keeping::{
 pub use numbering::{
     a_window_begins_numbered, each_delivery_keeps_the_numbering, each_paint_keeps_the_numbering,
 };
+pub use owing::each_differing_pixel_is_owed;
