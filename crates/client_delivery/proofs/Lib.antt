@@ -17,3 +17,4 @@ pub mod Attaching
 pub mod Numberings
 pub mod Relieves
 pub mod Differing
+pub mod Owings

@@ -13,7 +13,7 @@ use Rattle.client_outbox.specs.Sending.{advanced}
 use Rattle.window_source.specs.Source.{SourceSeen}
 use Rattle.window_source.specs.Waiting.{Queued}
 use Rattle.client_delivery.specs.Attached.{AttachedSeen, find_source}
-use Rattle.client_delivery.specs.Delivered.{IsTold}
+use Rattle.client_delivery.specs.Delivered.{is_draw, IsTold}
 use Rattle.client_delivery.specs.Owed.{owes, source_owes, OwesWhatDiffers}
 use Rattle.client_delivery.specs.Steps.{Attaches, Quiet, Mapping, Unmapping, GivingBack, Acknowledging, Refreshing, quiet, changes_source, Opens, Closes, Resizes, PutsAlone, Captures, Files, writes}
 
@@ -60,7 +60,7 @@ ResizeOwes = (wid w h now : ℕ) (a a' : AttachedSeen) (s : SourceSeen) (k x y :
 
 -- a move, a raise, an answer to a ping: as before
 abbrev pub PutOwes : Type 0
-PutOwes = (m : ToClient) (a a' : AttachedSeen) (k x y : ℕ) → PutsAlone m a a' → owes a' k x y ≡ owes a k x y
+PutOwes = (m : ToClient) (a a' : AttachedSeen) (k x y : ℕ) → is_draw m ≡ false → PutsAlone m a a' → owes a' k x y ≡ owes a k x y
 
 -- what a client says: map, unmap and giving back as before; a refresh the whole window; an acknowledgement with a negative time its draw's rectangle
 abbrev pub is_acknowledged_late : Option Rectangle → Bool → ℕ → ℕ → Bool

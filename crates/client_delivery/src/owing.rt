@@ -1,5 +1,14 @@
 // What is owed an attached client: each differing pixel, and how each step changes it.
-ghost use Rattle.client_delivery.specs.Owing.{ToldOwesWhatDiffers};
+ghost use Rattle.client_delivery.specs.Owing.{
+  ToldOwesWhatDiffers,
+  PaintOwes,
+  OpenOwes,
+  CloseOwes,
+  ResizeOwes,
+  PutOwes,
+  QuietOwes,
+  WholeWriteOwes,
+};
 
 use delivery_model::{form_gives_invariant, points_are_their_tests};
 use packet_kinds::a_part_shows_nothing;
@@ -11,4 +20,25 @@ pub fn each_differing_pixel_is_owed()
     form_gives_invariant();
     points_are_their_tests();
     a_part_shows_nothing();
+}
+
+/// A painted rectangle is owed too; a new window is owed whole; of a closed one nothing is; of a resized one what was owed in
+/// both sizes, and what is new; a move, a raise and an answer change nothing.
+pub fn each_paint_changes_owed_so()
+    ensures paint { PaintOwes }
+    ensures open { OpenOwes }
+    ensures close { CloseOwes }
+    ensures resize { ResizeOwes }
+    ensures put { PutOwes }
+{
+    points_are_their_tests();
+}
+
+/// Map, unmap and giving back change nothing; a refresh owes the whole window, and a late acknowledgement its draw's rectangle.
+/// Once the first packet is written whole, the points in its relief are owed where something else owes them.
+pub fn each_delivery_changes_owed_so()
+    ensures window { QuietOwes }
+    ensures write { WholeWriteOwes }
+{
+    points_are_their_tests();
 }
