@@ -35,7 +35,7 @@ same_test : (a b : ℕ) → eqb a b ≡ eqb b a
 same_test a b = grind (arith, nat_tests)
 
 -- no window behind the first has its number
-none_found : (wid : ℕ) (xs : List Window) → All (λ (w : Window). wid ≢ w.wid) xs → has_window xs wid ≡ false
+pub none_found : (wid : ℕ) (xs : List Window) → All (λ (w : Window). wid ≢ w.wid) xs → has_window xs wid ≡ false
 none_found wid [] apart = refl
 none_found wid (x ∷ xs) apart = go (eqb x.wid wid) refl (none_found wid xs (All-tail (λ (w : Window). wid ≢ w.wid) x xs apart))
   where
@@ -43,10 +43,10 @@ none_found wid (x ∷ xs) apart = go (eqb x.wid wid) refl (none_found wid xs (Al
     go true same later = absurd (All-head (λ (w : Window). wid ≢ w.wid) x xs apart (sym (eqb-true x.wid wid same)))
     go false other later = later
 
-head_apart : (x : Window) (xs : List Window) → AllPairs (λ (v w : Window). v.wid ≢ w.wid) (x ∷ xs) → All (λ (w : Window). x.wid ≢ w.wid) xs
+pub head_apart : (x : Window) (xs : List Window) → AllPairs (λ (v w : Window). v.wid ≢ w.wid) (x ∷ xs) → All (λ (w : Window). x.wid ≢ w.wid) xs
 head_apart x xs apart = λ i d low. apart 0 (suc i) d (omega arith) (omega (arith, low))
 
-tail_apart : (x : Window) (xs : List Window) → AllPairs (λ (v w : Window). v.wid ≢ w.wid) (x ∷ xs) → AllPairs (λ (v w : Window). v.wid ≢ w.wid) xs
+pub tail_apart : (x : Window) (xs : List Window) → AllPairs (λ (v w : Window). v.wid ≢ w.wid) (x ∷ xs) → AllPairs (λ (v w : Window). v.wid ≢ w.wid) xs
 tail_apart x xs apart = λ i j d before low. apart (suc i) (suc j) d (omega (arith, before)) (omega (arith, low))
 
 relaid : (desk desk' windows : List Window) (ms : List ToClient) → layout desk ≡ layout desk' → IsLaidOut desk windows ms → IsLaidOut desk' windows ms

@@ -87,15 +87,15 @@ busy_same wide high k (w ∷ ws) carried =
     ∙ ap (λ b. is_busy (cond (draws_in k w.packet) (numbered w.packet.draw) []) || b) (busy_same wide high k ws carried.1)
     ∙ sym (busy_append (cond (draws_in k w.packet) (numbered w.packet.draw) []) (numbered_on k (packets_of ws)))
 
-module _ (finds : KeyedFinds SourceSeen) (keeps : KeyedKeeps SourceSeen) (form : EventsKeepTheForm) where
-  -- a capture of one source is one of the model's window
-  planned_then : (s : SourceSeen) (plan : List Planned) (pixels : List ℕ) (client : Option Grid) (packets few : List Packet) → is_busy packets ≡ is_busy few → IsCaptureOf (window_of s pixels None few) plan
-      → IsCaptureOf (window_of s pixels client packets) plan
-  planned_then s plan pixels client packets few busy is = record {
-    unclean = ap (λ b. is_empty s.pending && (is_empty s.lossy || (ltb 0 (length s.jobs) || b))) busy ∙ is.unclean;
-    planned = record { within = is.planned.within; apart = is.planned.apart; covers = is.planned.covers; lossy = is.planned.lossy; refresh = is.planned.refresh };
-  }
+-- a capture of one source is one of the model's window
+pub planned_then : (s : SourceSeen) (plan : List Planned) (pixels : List ℕ) (client : Option Grid) (packets few : List Packet) → is_busy packets ≡ is_busy few → IsCaptureOf (window_of s pixels None few) plan
+    → IsCaptureOf (window_of s pixels client packets) plan
+planned_then s plan pixels client packets few busy is = record {
+  unclean = ap (λ b. is_empty s.pending && (is_empty s.lossy || (ltb 0 (length s.jobs) || b))) busy ∙ is.unclean;
+  planned = record { within = is.planned.within; apart = is.planned.apart; covers = is.planned.covers; lossy = is.planned.lossy; refresh = is.planned.refresh };
+}
 
+module _ (finds : KeyedFinds SourceSeen) (keeps : KeyedKeeps SourceSeen) (form : EventsKeepTheForm) where
   pub capture_keeps : CaptureKeeps
   capture_keeps desk were_opened window plan first a a' sent there captures told =
       subst (λ (sources : List SourceSeen). IsTold desk were_opened (record a' { sources = sources }) sent) (sym captures.sources) (record {

@@ -18,3 +18,4 @@ pub mod Numberings
 pub mod Relieves
 pub mod Differing
 pub mod Owings
+pub mod Drawing

@@ -171,8 +171,10 @@ attach_numbers desk conn now next a some attaches = λ k s found.
   where
     none : (k : ℕ) (ws : List Waiting) → AllByRecursion Carries ws → messages_of ws ≡ T.Hello attaches.hello ∷ map announces desk → numbered_on k (packets_of ws) ≡ []
     none k [] carried is = refl
-    none k (h ∷ ws) carried is = no_numbers k (h ∷ ws) carried (ap is_draw (let first : h.message ≡ T.Hello attaches.hello = cc is in first),
-        all_announced (λ m. is_draw m ≡ false) desk ws (let later : messages_of ws ≡ map announces desk = cc is in later) (λ w there. refl) desk (λ i there. there))
+    none k (h ∷ ws) carried is = no_numbers k (h ∷ ws) carried (
+      ap is_draw (let first : h.message ≡ T.Hello attaches.hello = cc is in first),
+      all_announced (λ m. is_draw m ≡ false) desk ws (let later : messages_of ws ≡ map announces desk = cc is in later) (λ w there. refl) desk (λ i there. there),
+    )
 
 nothing_drawn : (k : ℕ) (packets : List Queued) → AllByRecursion (λ (p : Queued). draws_in k p ≡ false) packets → numbered_on k packets ≡ []
 nothing_drawn k [] none = refl
@@ -250,7 +252,7 @@ same_numbers wide high k (w ∷ ws) carried =
     ∙ ap (λ (ns : List ℕ). map (λ (d : Drawn). d.sequence) (draws_of (cond (draws_in k w.packet) (numbered w.packet.draw) [])) ++ ns) (same_numbers wide high k ws carried.1)
     ∙ sym (numbers_append (cond (draws_in k w.packet) (numbered w.packet.draw) []) (numbered_on k (packets_of ws)))
 
-own_alone : (j k : ℕ) (ws : List Waiting) → eqb j k ≡ false → AllByRecursion (λ (w : Waiting). w.packet.wid ≡ Some k) ws → numbered_on j (packets_of ws) ≡ []
+pub own_alone : (j k : ℕ) (ws : List Waiting) → eqb j k ≡ false → AllByRecursion (λ (w : Waiting). w.packet.wid ≡ Some k) ws → numbered_on j (packets_of ws) ≡ []
 own_alone j k [] other own = refl
 own_alone j k (w ∷ ws) other own =
     ap (λ (o : Option ℕ). cond (is_named o j) (numbered w.packet.draw) [] ++ numbered_on j (packets_of ws)) own.0
@@ -258,7 +260,7 @@ own_alone j k (w ∷ ws) other own =
     ∙ own_alone j k ws other own.1
 
 -- one item in the place of that with its key
-constant_found : (new : SourceSeen) (k : ℕ) → new.wid ≡ k → (xs : List SourceSeen) (j : ℕ) → find_source (keyed_change source_key xs k (λ s. new)) j ≡ cond (eqb j k) (option_map (λ s. new) (find_source xs j)) (find_source xs j)
+pub constant_found : (new : SourceSeen) (k : ℕ) → new.wid ≡ k → (xs : List SourceSeen) (j : ℕ) → find_source (keyed_change source_key xs k (λ s. new)) j ≡ cond (eqb j k) (option_map (λ s. new) (find_source xs j)) (find_source xs j)
 constant_found new k is [] j = none (eqb j k)
   where
     nobody : Option SourceSeen

@@ -30,7 +30,7 @@ use Rattle.client_delivery.specs.Steps.{structure, Puts, announces, Quiet, Mappi
 use Rattle.client_delivery.specs.Owing.{is_in_source, has_place, PaintOwes, OpenOwes, CloseOwes, owed_resized, ResizeOwes, PutOwes, is_acknowledged_late, unacknowledged_of, quiet_owes, QuietOwes, front_relieves, owes_behind, WholeWriteOwes}
 use Rattle.client_delivery.proofs.Parts.{unnamed, own}
 
-or_false : (b : Bool) → (b || false) ≡ b
+pub or_false : (b : Bool) → (b || false) ≡ b
 or_false true = refl
 or_false false = refl
 
@@ -70,7 +70,7 @@ resize_more false true p j r l = refl
 resize_more true true p j r l = ap (λ b. b || ((r && true) || (l && true))) (or_false (p || j)) ∙ ap (λ b. (p || j) || b) (ap (λ b. b || (l && true)) (and_true r) ∙ ap (λ b. r || b) (and_true l)) ∙ sym (or_false ((p || j) || (r || l)))
 
 -- a window that begins
-all_begins : (w r l : Bool) → (w && (((w && true) || false) || (r || l))) ≡ w
+pub all_begins : (w r l : Bool) → (w && (((w && true) || false) || (r || l))) ≡ w
 all_begins false r l = refl
 all_begins true r l = refl
 

@@ -6,7 +6,7 @@ use Rattle.xp_base.specs.Points.{Rectangle, is_in, is_within}
 use Rattle.rect_regions.specs.PointSets.{has as has_point}
 use Rattle.delivery_model.specs.Window.{Sent}
 use Rattle.delivery_model.specs.Events.{Planned, damaged, rect_sent}
-use Rattle.window_model.specs.Desktop.{Window, IsDesktop, fresh_window}
+use Rattle.window_model.specs.Desktop.{Window, IsDesktop, find_window, fresh_window}
 use Rattle.packet_kinds.specs.declared.to_client.ToClient.{ToClient}
 use Rattle.client_outbox.specs.Reliefs.{draws_in}
 use Rattle.client_outbox.specs.Sending.{advanced}
@@ -83,8 +83,8 @@ QuietOwes = (wid : ℕ) (q : Quiet) (a : AttachedSeen) (k x y : ℕ) → owes (c
 
 -- a capture and a result, whatever becomes of it: as before
 abbrev pub CaptureOwes : Type 0
-CaptureOwes = (desk : List Window) (were_opened : ℕ → Bool) (window : Window) (plan : List Planned) (first : ℕ) (a a' : AttachedSeen) (sent : List ℕ) (k x y : ℕ) → Captures window plan first a a'
-    → IsTold desk were_opened a sent → IsTold desk were_opened a' sent → owes a' k x y ≡ owes a k x y
+CaptureOwes = (desk : List Window) (were_opened : ℕ → Bool) (window : Window) (plan : List Planned) (first : ℕ) (a a' : AttachedSeen) (sent : List ℕ) (k x y : ℕ) → find_window desk window.wid ≡ Some window
+    → Captures window plan first a a' → IsTold desk were_opened a sent → owes a' k x y ≡ owes a k x y
 
 abbrev pub FileOwes : Type 0
 FileOwes = (desk : List Window) (were_opened : ℕ → Bool) (wid number : ℕ) (capture : Captured) (now : ℕ) (a a' : AttachedSeen) (sent : List ℕ) (k x y : ℕ) → Files wid number capture now a a'

@@ -14,5 +14,6 @@ pub use numbering::{
     a_window_begins_numbered, each_delivery_keeps_the_numbering, each_paint_keeps_the_numbering,
 };
 pub use owing::{
-    each_delivery_changes_owed_so, each_differing_pixel_is_owed, each_paint_changes_owed_so,
+    attaching_and_drawing_owe_so, each_delivery_changes_owed_so, each_differing_pixel_is_owed,
+    each_paint_changes_owed_so,
 };

@@ -1,6 +1,9 @@
 // What is owed an attached client: each differing pixel, and how each step changes it.
 ghost use Rattle.client_delivery.specs.Owing.{
   ToldOwesWhatDiffers,
+  AttachOwes,
+  CaptureOwes,
+  FileOwes,
   PaintOwes,
   OpenOwes,
   CloseOwes,
@@ -10,7 +13,9 @@ ghost use Rattle.client_delivery.specs.Owing.{
   WholeWriteOwes,
 };
 
-use delivery_model::{form_gives_invariant, points_are_their_tests};
+use delivery_model::{
+    every_event_changes_owed_as_stated, form_gives_invariant, points_are_their_tests,
+};
 use packet_kinds::a_part_shows_nothing;
 
 /// Each pixel in which the client's picture, read from the bytes sent to it, differs from the desktop is owed.
@@ -40,5 +45,15 @@ pub fn each_delivery_changes_owed_so()
     ensures window { QuietOwes }
     ensures write { WholeWriteOwes }
 {
+    points_are_their_tests();
+}
+
+/// A client that attaches is owed the whole desktop; a capture, and a result, change nothing.
+pub fn attaching_and_drawing_owe_so()
+    ensures attach { AttachOwes }
+    ensures capture { CaptureOwes }
+    ensures file { FileOwes }
+{
+    every_event_changes_owed_as_stated();
     points_are_their_tests();
 }
