@@ -11,6 +11,9 @@ pub record Tracked : Type 0 where
   pub draws : List Sent
   pub room : ℕ
 
+abbrev pub sent_as : ℕ → Rectangle → Sent
+sent_as sequence rect = record { sequence = sequence; rect = rect }
+
 -- a draw takes its place by its number: in front of the first one with a greater number
 abbrev pub placed : List Sent → Sent → List Sent
 placed [] s = s ∷ []

@@ -1,7 +1,7 @@
 // The unacknowledged draws of one window.
 ghost use Rattle.std.specs.Prelude.{◌≡◌, ◌+◌, ◌<◌, ◌≤◌, ◌^◌, [], length, Some, None, IsOk, OnOk, OnErr, IfOk, IfErr, MatchOption};
 ghost use Rattle.delivery_model.specs.Events.{rect_sent};
-ghost use Rattle.ack_tracker.specs.Unacknowledged.{Tracked, placed, rect_at, AckGives};
+ghost use Rattle.ack_tracker.specs.Unacknowledged.{Tracked, sent_as, placed, rect_at, AckGives};
 ghost use Rattle.ack_tracker.specs.Places.{IsTracked, IsAt, IsGapFor, IsPlaceOf};
 
 use crate::ack::Ack;
@@ -53,7 +53,7 @@ impl Acks {
         requires small { seq < 2 ^ 63 }
         requires unused { rect_sent self.old.draws seq ≡ None }
         requires few { length self.old.draws < 2 ^ 31 }
-        ensures ok { OnOk result (self.new.draws ≡ placed self.old.draws (record { sequence = seq; rect = r })) }
+        ensures ok { OnOk result (self.new.draws ≡ placed self.old.draws (sent_as seq r)) }
         ensures err { OnErr result (self.new.draws ≡ self.old.draws) }
         ensures reserved { 0 < self.old.room → IsOk result }
         ensures room { self.old.room ≤ self.new.room + 1 }

@@ -1,5 +1,5 @@
 -- The packets that wait to be written to one client, in order. This project's own.
-use Rattle.std.specs.Prelude.{ℕ, ◌≡◌, ◌+◌, ◌<◌, ◌^◌, Option, is_some, List, [], ◌∷◌, ◌++◌, length, drop}
+use Rattle.std.specs.Prelude.{ℕ, ◌≡◌, ◌+◌, ◌<◌, ◌^◌, Option, Some, None, is_some, List, [], ◌∷◌, ◌++◌, length, drop}
 use Rattle.std.specs.List.{flat_map}
 use Rattle.client_outbox.specs.declared.draw.Draw.{Draw}
 
@@ -13,6 +13,12 @@ pub record WaitingPacket (R : Type 0) : Type 0 where
 pub record IsPacket {R : Type 0} (p : WaitingPacket R) : Type 0 where
   pub some : 0 < length p.bytes
   pub named : is_some p.wid ≡ is_some p.draw
+
+abbrev pub draw_packet : {R : Type 0} → ℕ → Draw → List ℕ → R → WaitingPacket R
+draw_packet wid draw bytes relief = record { wid = Some wid; bytes = bytes; relief = relief; draw = Some draw }
+
+abbrev pub other_packet : {R : Type 0} → List ℕ → R → WaitingPacket R
+other_packet bytes relief = record { wid = None; bytes = bytes; relief = relief; draw = None }
 
 -- the packets that are not wholly written, the oldest first, and how many bytes of the first one were taken
 pub record Outgoing (R : Type 0) : Type 0 where

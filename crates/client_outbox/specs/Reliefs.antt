@@ -75,3 +75,11 @@ ReliefsChange Becomes wid [] [] = Unit {0}
 ReliefsChange Becomes wid [] (q ∷ new) = ⊥
 ReliefsChange Becomes wid (p ∷ old) [] = ⊥
 ReliefsChange Becomes wid (p ∷ old) (q ∷ new) = PacketChanges Becomes wid p q × ReliefsChange Becomes wid old new
+
+-- the reliefs of the window's draws are emptied
+abbrev pub Forgets : {R : Type 0} → (R → ℕ → ℕ → Bool) → ℕ → List (WaitingPacket R) → List (WaitingPacket R) → Type 0
+Forgets has wid old new = ReliefsChange (Emptied has) wid old new
+
+-- these are the reliefs of the window's draws, clipped to a size
+abbrev pub AreClips : {R : Type 0} → (R → ℕ → ℕ → Bool) → ℕ → ℕ → ℕ → List (WaitingPacket R) → Clips R → Type 0
+AreClips has wid w h packets c = EachBecomes (ClippedTo has w h) (reliefs_of wid packets) c.reliefs

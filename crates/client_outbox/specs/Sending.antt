@@ -5,7 +5,7 @@ use Rattle.link_bay.specs.Answers.{WriteGives}
 use Rattle.link_bay.specs.declared.bay.Wrote.TheVariants as W
 use Rattle.client_outbox.specs.declared.out.Out.{Out}
 use Rattle.client_outbox.specs.declared.out.Out.TheVariants as O
-use Rattle.client_outbox.specs.Outgoing.{WaitingPacket, Outgoing}
+use Rattle.client_outbox.specs.Outgoing.{WaitingPacket, Outgoing, Queue}
 
 -- what of the first packet was not taken yet
 abbrev pub rest_of : {R : Type 0} → List (WaitingPacket R) → ℕ → List ℕ
@@ -33,3 +33,7 @@ SendGives line line' o o' max O.Idle = (o.packets ≡ []) × (line' ≡ line) ×
 SendGives line line' o o' max O.Again = (o.packets ≢ []) × WriteGives line line' (piece_of max o) (W.Took 0) × (o' ≡ o)
 SendGives line line' o o' max O.Failed = (o.packets ≢ []) × WriteGives line line' (piece_of max o) W.Failed × (o' ≡ o)
 SendGives line line' o o' max O.NoMemory = (o.packets ≢ []) × WriteGives line line' (piece_of max o) W.NoMemory × (o' ≡ o)
+
+-- the same of an outbox
+abbrev pub Sends : {R : Type 0} → ConnectionRecord → ConnectionRecord → Queue R → Queue R → ℕ → Out → Type 0
+Sends line line' q q' max out = SendGives line line' q.waiting q'.waiting max out

@@ -1,6 +1,6 @@
 // Reliefs of one window's draws, emptied and clipped.
 ghost use Rattle.std.specs.Prelude.{◌≡◌, ◌≤◌, IfOk};
-ghost use Rattle.client_outbox.specs.Reliefs.{Emptied, ClippedTo, ReliefsChange, EachBecomes, reliefs_of, with_reliefs};
+ghost use Rattle.client_outbox.specs.Reliefs.{Forgets, AreClips, with_reliefs};
 
 use crate::outbox::Outbox;
 use rect_regions::Points;
@@ -25,7 +25,7 @@ impl<R: Points> Model for Clipped<R> {
 impl<R: Points> Outbox<R> {
     /// Empties the reliefs of a window's waiting draws.
     pub fn forget(&mut self, wid: Wid)
-        ensures reliefs { ReliefsChange (Emptied R.has) wid self.old.waiting.packets self.new.waiting.packets }
+        ensures reliefs { Forgets R.has wid self.old.waiting.packets self.new.waiting.packets }
         ensures taken { self.new.waiting.taken ≡ self.old.waiting.taken }
         ensures room { self.new.room ≡ self.old.room }
     {
@@ -40,7 +40,7 @@ impl<R: Points> Outbox<R> {
         requires some_rows { 1 ≤ h }
         requires wide { w ≤ 4096 }
         requires high { h ≤ 4096 }
-        ensures { IfOk result (λ c. EachBecomes (ClippedTo R.has w h) (reliefs_of wid self.now.waiting.packets) c.reliefs) }
+        ensures { IfOk result (AreClips R.has wid w h self.now.waiting.packets) }
     {
         let size = Rect { x: 0, y: 0, w, h };
         let mut reliefs = Vec::new(*self.packets.allocator());

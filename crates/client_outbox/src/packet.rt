@@ -1,5 +1,5 @@
 // One packet that waits to be written.
-ghost use Rattle.std.specs.Prelude.{◌≡◌, ◌<◌, None, Some, vec_len};
+ghost use Rattle.std.specs.Prelude.{◌≡◌, ◌<◌, vec_len};
 
 use crate::draw::Draw;
 use rect_regions::Points;
@@ -25,17 +25,23 @@ impl<R: Points> Model for Packet<R> {
 
     ghost view = { λ p. record { wid = p.wid; bytes = p.bytes.items; relief = p.relief; draw = p.draw } };
 
-    ghost invariant = { λ p. IsPacket (record { wid = p.wid; bytes = p.bytes.items; relief = p.relief; draw = p.draw }) };
+    ghost invariant = { λ p. IsPacket (record {
+      wid = p.wid;
+      bytes = p.bytes.items;
+      relief = p.relief;
+      draw = p.draw;
+    }) };
 }
 
 impl<R: Points> Packet<R> {
     ghost use Rattle.rect_regions.specs.PointSets.{HasNone};
+    ghost use Rattle.client_outbox.specs.Outgoing.{draw_packet, other_packet};
     ghost use Rattle.client_outbox.specs.Reliefs.{draws_in, Emptied, PacketChanges, put_in, left_by};
 
     /// A draw.
     pub fn of_draw(wid: Wid, draw: Draw, bytes: Vec<u8>, relief: R) -> Packet<R>
         requires some { 0 < vec_len bytes }
-        ensures { result ≡ record { wid = Some wid; bytes = bytes.items; relief = relief; draw = Some draw } }
+        ensures { result ≡ draw_packet wid draw bytes.items relief }
     {
         Packet {
             wid: Some(wid),
@@ -48,7 +54,7 @@ impl<R: Points> Packet<R> {
     /// A packet that is no draw. It relieves nothing, and takes no memory.
     pub fn of_bytes(alloc: Global, bytes: Vec<u8>) -> Packet<R>
         requires some { 0 < vec_len bytes }
-        ensures kept { result ≡ record { wid = None; bytes = bytes.items; relief = result.relief; draw = None } }
+        ensures kept { result ≡ other_packet bytes.items result.relief }
         ensures relief { HasNone (R.has result.relief) }
     {
         Packet {

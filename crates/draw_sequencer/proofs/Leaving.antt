@@ -1,9 +1,8 @@
 -- How many jobs are ready, and in which order they stand.
-use Rattle.std.proofs.Common.{◌≡◌, ℕ, ◌+◌, Bool, true, false, ◌||◌, Option, Some, None, List, [], ◌∷◌, refl, sym, ◌∙◌, ap, arith}
-use Rattle.std.specs.Prelude.{nat_eq, is_some}
+use Rattle.std.proofs.Common.{◌≡◌, ℕ, ◌+◌, Bool, Some, None, List, [], ◌∷◌, refl, ap, arith}
 use Rattle.std.proofs.lemmas.Bool.Decides.{nat_tests}
 use Rattle.rgb_encoders.specs.Encoding.{Encoding}
-use Rattle.draw_sequencer.specs.InHand.{HeldJob, ReadyDraw, job_of, is_ready, count_leaving, relieve}
+use Rattle.draw_sequencer.specs.InHand.{HeldJob, ReadyDraw, job_of, count_leaving, relieve}
 use Rattle.draw_sequencer.specs.Filing.{with_encoding, PopGives}
 use Rattle.draw_sequencer.specs.Kept.{AreDistinct}
 use Rattle.draw_sequencer.specs.Laws.{count_ready, numbers_of}

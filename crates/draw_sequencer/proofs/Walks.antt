@@ -1,8 +1,8 @@
 -- Walks through the jobs in hand, up to a place and on from it.
-use Rattle.std.proofs.Common.{◌≡◌, ℕ, ◌+◌, ◌-◌, ◌<◌, ◌≤◌, Bool, true, false, List, [], ◌∷◌, ◌++◌, length, take, drop, get_or, set, Some, None, refl, sym, ◌∙◌, ap, arith, add-one}
+use Rattle.std.proofs.Common.{◌≡◌, ℕ, ◌+◌, ◌<◌, ◌≤◌, true, false, List, [], ◌∷◌, ◌++◌, length, take, drop, get_or, set, Some, None, refl, sym, ◌∙◌, ap, arith, add-one}
 use Rattle.std.specs.Prelude.{nat_eq}
 use Rattle.std.proofs.lemmas.Bool.Decides.{nat_tests}
-use Rattle.std.proofs.lemmas.List.{append-nil, take-append-drop, take_all, take_more, drop_more, drop_all, set_split, set-get_or, get_or_default}
+use Rattle.std.proofs.lemmas.List.{take-append-drop, take_all, take_more, drop_more, drop_all, set_split, set-get_or, get_or_default}
 use Rattle.rgb_encoders.specs.Encoding.{Encoding}
 use Rattle.draw_sequencer.specs.InHand.{HeldJob, job_of, is_ready, count_leaving}
 use Rattle.draw_sequencer.specs.Filing.{with_encoding}

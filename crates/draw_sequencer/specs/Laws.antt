@@ -1,5 +1,5 @@
 -- What filing and leaving come to.
-use Rattle.std.specs.Prelude.{ℕ, ◌≡◌, ◌+◌, Bool, Option, Some, None, is_some, List, [], ◌∷◌, map, if◌then◌else◌}
+use Rattle.std.specs.Prelude.{ℕ, ◌≡◌, ◌+◌, Bool, Some, None, is_some, List, [], ◌∷◌, map, if◌then◌else◌}
 use Rattle.rgb_encoders.specs.Encoding.{Encoding}
 use Rattle.draw_sequencer.specs.InHand.{HeldJob, ReadyDraw, count_leaving, relieve}
 use Rattle.draw_sequencer.specs.Filing.{with_encoding, PopGives}

@@ -23,7 +23,12 @@ impl<R: Points> Model for InHand<R> {
 
     ghost Value = { HeldJob R };
 
-    ghost view = { λ j. record { number = j.id.0; capture = arc_value j.capture; relief = j.relief; encoded = j.encoded } };
+    ghost view = { λ j. record {
+      number = j.id.0;
+      capture = arc_value j.capture;
+      relief = j.relief;
+      encoded = j.encoded;
+    } };
 
     ghost invariant = { λ j. IsOwn j.encoded (arc_value j.capture) };
 }

@@ -1,7 +1,7 @@
 // The jobs in hand of one window.
-ghost use Rattle.std.specs.Prelude.{◌≡◌, ◌+◌, ◌<◌, ◌≤◌, ◌^◌, [], ◌∷◌, ◌++◌, length, Some, None, slice_get, OnOk, OnErr, IsOk, MatchOption, ◌==◌};
+ghost use Rattle.std.specs.Prelude.{◌≡◌, ◌+◌, ◌<◌, ◌≤◌, ◌^◌, [], length, OnOk, OnErr, IsOk, MatchOption, ◌==◌};
 ghost use Rattle.std.specs.Arc.{arc_value};
-ghost use Rattle.draw_sequencer.specs.InHand.{new_job, job_of, relieve, all_pixels, count_leaving};
+ghost use Rattle.draw_sequencer.specs.InHand.{with_job, IsFree, StandsAt, HasNumber, relieve, all_pixels, count_leaving};
 ghost use Rattle.draw_sequencer.specs.Filing.{FileGives, PopGives};
 ghost use Rattle.draw_sequencer.specs.Kept.{AreDistinct, IsPlaceOf};
 
@@ -61,9 +61,9 @@ impl<R: Points> Sequencer<R> {
 
     /// Takes a job in hand behind all others, with a number that no job in hand has.
     pub fn add(&mut self, id: JobId, capture: Arc<Capture>, relief: R) -> Result<(), NoMemory>
-        requires unused { job_of self.old.jobs id.0 ≡ None }
+        requires unused { IsFree self.old.jobs id.0 }
         requires few { length self.old.jobs < 2 ^ 31 }
-        ensures ok { OnOk result (self.new.jobs ≡ self.old.jobs ++ new_job id.0 (arc_value capture) relief ∷ []) }
+        ensures ok { OnOk result (self.new.jobs ≡ with_job self.old.jobs id.0 (arc_value capture) relief) }
         ensures same { OnErr result (self.new.jobs ≡ self.old.jobs) }
         ensures reserved { 0 < self.old.room → IsOk result }
         ensures room { self.old.room ≤ self.new.room + 1 }
@@ -81,14 +81,14 @@ impl<R: Points> Sequencer<R> {
 
     /// The k-th job in hand, from 0. `None` exactly where there are not so many.
     pub fn nth(&self, k: u32) -> Option<&InHand<R>>
-        ensures { MatchOption result (length self.now.jobs ≤ k) (λ j. slice_get self.now.jobs k ≡ Some j.now) }
+        ensures { MatchOption result (length self.now.jobs ≤ k) (λ j. StandsAt self.now.jobs k j.now) }
     {
         self.jobs.get(k as usize)
     }
 
     /// The job in hand with this number. `None` exactly where there is none.
     pub fn find(&self, id: JobId) -> Option<&InHand<R>>
-        ensures { MatchOption result (job_of self.now.jobs id.0 ≡ None) (λ j. job_of self.now.jobs id.0 ≡ Some j.now) }
+        ensures { MatchOption result (IsFree self.now.jobs id.0) (λ j. HasNumber self.now.jobs id.0 j.now) }
     {
         let place = self.place(id)?;
         Some(&self.jobs[place])
@@ -187,7 +187,7 @@ impl<R: Points> Sequencer<R> {
 
     // Where the job with this number stands.
     fn place(&self, id: JobId) -> Option<usize>
-        ensures { MatchOption result (job_of self.now.jobs id.0 ≡ None) (IsPlaceOf self.now.jobs id.0) }
+        ensures { MatchOption result (IsFree self.now.jobs id.0) (IsPlaceOf self.now.jobs id.0) }
     {
         for i in 0..self.jobs.len() {
             let job = &self.jobs[i];

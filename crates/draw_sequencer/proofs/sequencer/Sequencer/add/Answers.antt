@@ -1,8 +1,8 @@
-use Rattle.std.proofs.Common.{ℕ, ◌≡◌, ◌+◌, ◌<◌, ◌^◌, Some, None, List, sym, ◌∙◌, ap, subst, arith}
+use Rattle.std.proofs.Common.{◌≡◌, ◌+◌, ◌<◌, ◌^◌, None, sym, ◌∙◌, ap, arith}
 use Rattle.std.specs.Arc.{arc_value}
 use Rattle.xp_base.specs.Captures.{Captured}
 use Rattle.xp_base.specs.Points.{area}
-use Rattle.draw_sequencer.specs.InHand.{HeldJob, Jobs, new_job, job_of}
+use Rattle.draw_sequencer.specs.InHand.{Jobs, new_job, job_of}
 use Rattle.draw_sequencer.proofs.Steps.{pixels_fit, kept_with}
 use Rattle.draw_sequencer.proofs.sequencer.Sequencer.add.Goals as goal
 

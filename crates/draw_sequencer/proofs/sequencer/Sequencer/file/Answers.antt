@@ -1,7 +1,6 @@
 use Rattle.std.specs.Arc.{arc_value}
 use mathlib.Core.Bool.{false≢true}
-use Rattle.std.proofs.Common.{ℕ, ◌≡◌, ◌≢◌, List, Some, refl, sym, ◌∙◌, ap, subst, get_or, arith}
-use Rattle.xp_base.specs.Captures.{Captured}
+use Rattle.std.proofs.Common.{◌≡◌, ◌≢◌, List, refl, sym, ◌∙◌, ap, subst, get_or}
 use Rattle.rgb_encoders.specs.Encoding.{Encoding}
 use Rattle.draw_sequencer.specs.InHand.{HeldJob, Jobs}
 use Rattle.draw_sequencer.specs.Kept.{IsPlaceOf}
