@@ -1,6 +1,9 @@
 // The worked examples, all widths from 1 to 40, and what no clause says.
+ghost use Rattle.std.specs.Prelude.{◌≤◌};
+
 use rgb_encoders::{DataFault, decode, encode, pixel_size, plain_decoding, plain_encoding};
 use std::alloc::{AllocError, Global};
+use std::fmt::Write;
 use std::sync::Arc;
 use std::test::Fail;
 use xp_base::{Capture, Coding, Pixel, Pixels, Rect};
@@ -39,22 +42,34 @@ fn codes_the_worked_pixel(rt: HostRuntime) -> Result<(), Fail> {
     Ok(())
 }
 
+/// What the bytes of one lossy pixel show, in hexadecimal, or their fault.
+fn pixel_told(alloc: Global, stride: u32, bytes: &[u8]) -> Result<String, Fail> {
+    let mut out = String::new(alloc);
+    match decode(alloc, Coding::Lossy, 1, 1, stride, bytes) {
+        Ok(pixels) => {
+            for pixel in pixels.as_slice() {
+                let number = pixel.get();
+                write!(out, "{number:x}")?;
+            }
+        }
+        Err(fault) => write!(out, "{fault:?}")?,
+    }
+    Ok(out)
+}
+
+/// Strides and bytes of one lossy pixel, and what is told of them.
+const ONE_PIXEL: &[(u32, &[u8], &str)] = &[
+    (2, &[0x06, 0x11], "102031"),
+    (1, &[0x06, 0x11], "Stride(1)"),
+    (2, &[0x06, 0x11, 0], "Length(3)"),
+    (1, &[0x06, 0x11, 0], "Stride(1)"),
+];
+
 #[test]
 fn decodes_the_worked_pixel(rt: HostRuntime) -> Result<(), Fail> {
-    let alloc = rt.alloc();
-    let shown = [Pixel::new(0x102031).ok_or("a pixel's number")?];
-    let pixels = decode(alloc, Coding::Lossy, 1, 1, 2, &[0x06, 0x11])?;
-    assert_eq!(rt; pixels.as_slice(), shown.as_slice());
-    let faults = [
-        (1, [0x06, 0x11].as_slice(), DataFault::Stride(1)),
-        (2, [0x06, 0x11, 0].as_slice(), DataFault::Length(3)),
-        (1, [0x06, 0x11, 0].as_slice(), DataFault::Stride(1)),
-    ];
-    for (stride, bytes, fault) in faults {
-        match decode(alloc, Coding::Lossy, 1, 1, stride, bytes) {
-            Ok(_) => assert!(rt; false, "no fault with stride {stride}"),
-            Err(found) => assert_eq!(rt; found, fault, "with stride {stride}"),
-        }
+    for (stride, bytes, want) in ONE_PIXEL {
+        let told = pixel_told(rt.alloc(), *stride, bytes)?;
+        assert_eq!(rt; told.as_str(), *want, "with stride {stride}");
     }
     Ok(())
 }
@@ -62,10 +77,10 @@ fn decodes_the_worked_pixel(rt: HostRuntime) -> Result<(), Fail> {
 /// Some 24-bit numbers.
 fn noise(alloc: Global, count: u32) -> Result<Vec<Pixel>, AllocError> {
     let mut pixels = Vec::new(alloc);
-    let mut state: u32 = count;
+    let mut state = u64::from(count);
     for _ in 0..count {
-        state = state.wrapping_mul(1664525).wrapping_add(1013904223);
-        if let Some(pixel) = Pixel::new(state >> 8) {
+        state = state % 16_777_216 * 1_140_671_485 + 12_820_163;
+        if let Some(pixel) = Pixel::new((state / 256 % 16_777_216) as u32) {
             pixels.push(pixel)?;
         }
     }
@@ -75,12 +90,16 @@ fn noise(alloc: Global, count: u32) -> Result<Vec<Pixel>, AllocError> {
 /// What a pixel shows, channel by channel: its high bits, and behind them their own high bits.
 fn shown(coding: Coding, pixel: Pixel) -> u32 {
     let number = pixel.get();
-    let (red, green, blue) = (number >> 16 & 0xff, number >> 8 & 0xff, number & 0xff);
+    let (red, green, blue) = (number / 65_536, number / 256 % 256, number % 256);
     match coding {
         Coding::Exact => number,
         Coding::Lossy => {
-            let (red, green, blue) = (red & 0xf8, green & 0xfc, blue & 0xf8);
-            (red | red >> 5) << 16 | (green | green >> 6) << 8 | blue | blue >> 5
+            let (red, green, blue) = (
+                red / 8 * 8 + red / 32,
+                green / 4 * 4 + green / 64,
+                blue / 8 * 8 + blue / 32,
+            );
+            red * 65_536 + green * 256 + blue
         }
     }
 }
@@ -96,20 +115,18 @@ fn put_bytes(out: &mut Vec<u8>, coding: Coding, pixel: Pixel) -> Result<(), Allo
     }
 }
 
-/// Decodes the bytes of one width with this gap behind each row, and compares each pixel.
-fn compare(
-    rt: &impl std::process::Abort,
+/// The bytes of rows of so many pixels, with a gap behind each.
+fn rows(
     alloc: Global,
     coding: Coding,
-    w: u32,
+    w: usize,
     gap: u32,
     pixels: &[Pixel],
-) -> Result<(), Fail> {
-    if w == 0 || w > 40 || gap > GAP {
-        return Err(Fail::from("a width from 1 to 40"));
-    }
+) -> Result<Vec<u8>, Fail>
+    requires { 1 ≤ w }
+{
     let mut bytes = Vec::new(alloc);
-    for row in pixels.chunks(w as usize) {
+    for row in pixels.chunks(w) {
         for pixel in row {
             put_bytes(&mut bytes, coding, *pixel)?;
         }
@@ -117,23 +134,55 @@ fn compare(
             bytes.push(0xaa)?;
         }
     }
+    Ok(bytes)
+}
+
+/// Whether these are what the pixels show.
+fn are_shown(coding: Coding, found: &[Pixel], pixels: &[Pixel]) -> bool {
+    if found.len() != pixels.len() {
+        return false;
+    }
+    for i in 0..pixels.len() {
+        if found[i].get() != shown(coding, pixels[i]) {
+            return false;
+        }
+    }
+    true
+}
+
+/// Decodes the bytes of one width with this gap behind each row by both bodies: whether both show each pixel.
+fn is_decoded(
+    alloc: Global,
+    coding: Coding,
+    w: u32,
+    gap: u32,
+    pixels: &[Pixel],
+) -> Result<bool, Fail>
+    requires some { 1 ≤ w }
+    requires few { w ≤ 40 }
+    requires narrow { gap ≤ 3 }
+{
+    let bytes = rows(alloc, coding, w as usize, gap, pixels)?;
     let stride = w * pixel_size(coding) + gap;
     let decoded = decode(alloc, coding, w, HIGH, stride, bytes.as_slice())?;
     let plain = plain_decoding(alloc, coding, w, HIGH, stride, bytes.as_slice())?;
-    assert_eq!(rt;
-        decoded.as_slice(),
-        plain.as_slice(),
-        "width {w}, both bodies"
-    );
-    assert_eq!(rt; decoded.as_slice().len(), pixels.len(), "width {w}");
-    for (found, pixel) in decoded.as_slice().iter().zip(pixels) {
-        assert_eq!(rt;
-            found.get(),
-            shown(coding, *pixel),
-            "width {w}, {coding:?}, {pixel:?}"
-        );
+    Ok(are_shown(coding, decoded.as_slice(), pixels) && are_shown(coding, plain.as_slice(), pixels))
+}
+
+/// Codes the pixels by both bodies: whether both give these bytes.
+fn is_coded(
+    alloc: Global,
+    coding: Coding,
+    w: u32,
+    pixels: Vec<Pixel>,
+    bytes: &[u8],
+) -> Result<bool, Fail> {
+    if pixels.len() > 120 {
+        return Err("at most 40 columns of 3 rows".into());
     }
-    Ok(())
+    let plain = plain_encoding(alloc, coding, pixels.as_slice())?;
+    let made = encode(alloc, capture_of(alloc, coding, w, HIGH, pixels)?)?;
+    Ok(made.bytes.as_slice() == bytes && plain.as_slice() == bytes)
 }
 
 #[test]
@@ -142,25 +191,15 @@ fn codes_widths_1_to_40(rt: HostRuntime) -> Result<(), Fail> {
     for coding in [Coding::Exact, Coding::Lossy] {
         for w in 1..41 {
             let pixels = noise(alloc, w * HIGH)?;
-            let mut bytes = Vec::new(alloc);
-            for pixel in &pixels {
-                put_bytes(&mut bytes, coding, *pixel)?;
+            let bytes = rows(alloc, coding, w as usize, 0, pixels.as_slice())?;
+            for gap in [0, GAP] {
+                assert!(rt;
+                    is_decoded(alloc, coding, w, gap, pixels.as_slice())?,
+                    "width {w}, {coding:?}"
+                );
             }
-            compare(&rt, alloc, coding, w, 0, pixels.as_slice())?;
-            compare(&rt, alloc, coding, w, GAP, pixels.as_slice())?;
-            if pixels.len() > 120 {
-                return Err("at most 40 columns of 3 rows".into());
-            }
-            let plain = plain_encoding(alloc, coding, pixels.as_slice())?;
-            assert_eq!(rt;
-                plain.as_slice(),
-                bytes.as_slice(),
-                "width {w}, {coding:?}, the plain body"
-            );
-            let made = encode(alloc, capture_of(alloc, coding, w, HIGH, pixels)?)?;
-            assert_eq!(rt;
-                made.bytes.as_slice(),
-                bytes.as_slice(),
+            assert!(rt;
+                is_coded(alloc, coding, w, pixels, bytes.as_slice())?,
                 "width {w}, {coding:?}"
             );
         }
@@ -168,23 +207,24 @@ fn codes_widths_1_to_40(rt: HostRuntime) -> Result<(), Fail> {
     Ok(())
 }
 
+/// Faults, and how they are printed.
+const FAULTS: &[(DataFault, &str)] = &[
+    (
+        DataFault::Stride(1),
+        "rows of 1 bytes have no room for their pixels",
+    ),
+    (
+        DataFault::Length(3),
+        "3 bytes are not the stride times the height",
+    ),
+    (DataFault::NoMemory, "out of memory"),
+];
+
 #[test]
 fn prints_faults(rt: HostRuntime) -> Result<(), Fail> {
-    let alloc = rt.alloc();
-    let faults = [
-        (
-            DataFault::Stride(1),
-            "rows of 1 bytes have no room for their pixels",
-        ),
-        (
-            DataFault::Length(3),
-            "3 bytes are not the stride times the height",
-        ),
-        (DataFault::NoMemory, "out of memory"),
-    ];
-    for (fault, text) in faults {
-        let printed = format!(in alloc; "{fault}")?;
-        assert_eq!(rt; printed.as_str(), text);
+    for (fault, text) in FAULTS {
+        let printed = format!(in rt.alloc(); "{fault}")?;
+        assert_eq!(rt; printed.as_str(), *text);
     }
     Ok(())
 }

@@ -3,9 +3,7 @@ ghost use Rattle.std.specs.Prelude.{◌≡◌, ◌≤◌, [], ◌∷◌, IfOk};
 ghost use Rattle.bencode_values.specs.declared.value.Value.TheVariants as V;
 
 use bencode_values::{Items, Value, limits_by_form, spelling_by_form};
-use packet_frames::{
-    Chunk, FrameFault, Framer, Next, a_chunk_is_put_in_by_form, read_pieces, write_packet,
-};
+use packet_frames::{Chunk, Framer, Next, a_chunk_is_put_in_by_form, read_pieces, write_packet};
 use std::alloc::Global;
 use std::fmt::Write;
 use std::test::Fail;
@@ -205,6 +203,9 @@ fn write_two(alloc: Global) -> Result<Vec<u8>, Fail> {
 
 /// Writes an empty list.
 fn write_empty(alloc: Global) -> Result<Vec<u8>, Fail> {
+    // What may be written, by the forms of its parts.
+    limits_by_form();
+    spelling_by_form();
     let value = Value::List(Items::new(alloc));
     let bytes = write_packet(alloc, &value, None)?;
     Ok(bytes)
@@ -226,51 +227,75 @@ fn packets_are_written_as_they_are_read(rt: HostRuntime) -> Result<(), Fail> {
     Ok(())
 }
 
+/// What a stream holds that comes in these pieces: the places of its packets, and its fault or how many bytes are left.
+fn held(alloc: Global, pieces: &[&[u8]]) -> Result<String, Fail> {
+    let mut list = Vec::new(alloc);
+    for piece in pieces {
+        list.push(Bytes::new(Vec::from_slice(alloc, piece)?))?;
+    }
+    let held = read_pieces(alloc, ONE_MIB, list.as_slice())?;
+    let mut out = String::new(alloc);
+    for packet in held.packets.as_slice() {
+        let place = packet.0;
+        write!(out, "{place} ")?;
+    }
+    match held.fault {
+        Some((place, fault)) => write!(out, "{place} {fault:?}")?,
+        None => {
+            let unread = held.unread;
+            write!(out, "{unread} unread")?;
+        }
+    }
+    Ok(out)
+}
+
+/// Streams in pieces, and what they hold.
+const PIECES: &[(&[&[u8]], &str)] = &[
+    (
+        &[
+            b"\x50\x00\x00\x00",
+            b"\x00\x00\x00\x02",
+            b"le\x50\x00",
+            b"\x00\x00\x00\x00",
+            b"\x00\x03i1",
+            b"e\x50\x00",
+        ],
+        "0 10 2 unread",
+    ),
+    (
+        &[
+            b"\x50\x00\x00\x00\x00\x00\x00\x02le\x50\x00\x00\x00\x00\x00\x00\x03i1e\x50\x00",
+            b"\x01le",
+        ],
+        "0 10 23 Level(1)",
+    ),
+];
+
 #[test]
 fn a_whole_stream_is_read_from_its_pieces(rt: HostRuntime) -> Result<(), Fail> {
-    let alloc = rt.alloc();
-    let mut pieces = Vec::new(alloc);
-    for piece in b"\x50\x00\x00\x00\x00\x00\x00\x02le\x50\x00\x00\x00\x00\x00\x00\x03i1e\x50\x00".chunks(
-        4,
-    ) {
-        pieces.push(Bytes::new(Vec::from_slice(alloc, piece)?))?;
+    for (pieces, want) in PIECES {
+        let answer = held(rt.alloc(), pieces)?;
+        assert_eq!(rt; answer.as_str(), *want);
     }
-    let held = read_pieces(alloc, ONE_MIB, pieces.as_slice())?;
-    assert_eq!(rt; held.packets.len(), 2);
-    assert_eq!(rt; held.packets[1].0, 10);
-    assert_eq!(rt; held.fault, None);
-    assert_eq!(rt; held.unread, 2);
-    pieces.push(Bytes::new(Vec::from_slice(alloc, b"\x01le")?))?;
-    let stopped = read_pieces(alloc, ONE_MIB, pieces.as_slice())?;
-    assert_eq!(rt; stopped.packets.len(), 2);
-    assert_eq!(rt; stopped.fault, Some((23, FrameFault::Level(1))));
     Ok(())
 }
 
-#[test]
-fn a_megabyte_comes_byte_by_byte(rt: HostRuntime) -> Result<(), Fail> {
-    let alloc = rt.alloc();
+/// A packet whose value is a string of a megabyte.
+fn megabyte(alloc: Global) -> Result<Vec<u8>, Fail> {
     let mut bytes = Vec::new(alloc);
     bytes.extend_from_slice(b"\x50\x00\x00\x00\x00\x10\x00\x001048568:")?;
     for _ in 0..1_048_568 {
         bytes.push(b'a')?;
     }
-    let mut framer = Framer::new(alloc, ONE_MIB);
-    let mut packets = 0u32;
-    for piece in bytes.as_slice().chunks(1) {
-        framer.feed(piece)?;
-        match framer.next() {
-            Next::Packet(_place, _value) => {
-                if packets < 10 {
-                    packets += 1;
-                }
-            }
-            Next::Need => {}
-            Next::Bad(_place, _fault) => return Err("a fault".into()),
-            Next::NoMemory => return Err("no memory".into()),
-        }
-    }
-    assert_eq!(rt; packets, 1);
-    assert_eq!(rt; framer.unread(), 0);
+    Ok(bytes)
+}
+
+#[test]
+fn a_megabyte_comes_byte_by_byte(rt: HostRuntime) -> Result<(), Fail> {
+    let bytes = megabyte(rt.alloc())?;
+    let answer = told(rt.alloc(), ONE_MIB, bytes.as_slice(), 1)?;
+    assert!(rt; answer.as_str().starts_with("0 [97, 97, 97"));
+    assert!(rt; answer.as_str().ends_with("97, 97], 0 unread"));
+    assert_eq!(rt; answer.as_bytes().len(), 4_194_284);
     Ok(())
 }
