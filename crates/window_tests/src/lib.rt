@@ -4,15 +4,11 @@
 
 #[cfg(test)]
 mod acks;
-
 #[cfg(test)]
 mod base;
-
 #[cfg(test)]
 mod bays;
-
 #[cfg(test)]
 mod first_scripts;
-
 #[cfg(test)]
 mod windows;

@@ -3,15 +3,11 @@
 
 #[cfg(test)]
 mod codings;
-
 #[cfg(test)]
 mod frames;
-
 #[cfg(test)]
 mod hello;
-
 #[cfg(test)]
 mod kinds;
-
 #[cfg(test)]
 mod values;
