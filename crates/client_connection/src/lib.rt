@@ -33,6 +33,3 @@ pub use packet::{Announcement, Draw, Packet};
 pub use points::Points;
 pub use source::Source;
 pub use xp_base::Text;
-
-#[cfg(test)]
-mod tests;

@@ -10,25 +10,25 @@ use Rattle.xp_base.specs.declared.coding.Coding.TheVariants as C
 use Rattle.xp_base.specs.Points.{Rectangle, LiesIn, is_in, is_within}
 use Rattle.xp_base.specs.Captures.{Captured}
 use Rattle.delivery_model.specs.Grids.{Points, points, has, number, shown_at, cut, number_in}
-use Rattle.delivery_model.specs.Window.{Job, Draw, Draws, Window, Rules, shown}
+use Rattle.delivery_model.specs.Window.{Job, Draw, Draws, Window}
 use Rattle.delivery_model.specs.Client.{size_of}
-use Rattle.delivery_model.specs.Events.{is_empty, jobs_relieve, Planned, region_taken, job_of, jobs_of, captured, IsPlan, relief_queued, lossy_queued, queued, queue_ready, with_result, filing_of, Filing, Late, Foreign, Filed, filed_as, filed, capture_of}
+use Rattle.delivery_model.specs.Events.{is_empty, jobs_relieve, Planned, region_taken, job_of, jobs_of, captured, relief_queued, lossy_queued, queued, queue_ready, with_result, filing_of, Filing, Late, Foreign, Filed, filed_as, filed, capture_of}
+use Rattle.delivery_model.specs.Plans.{IsPlan}
 use Rattle.delivery_model.specs.Marks.{over}
-use Rattle.delivery_model.specs.Point.{packets_at, job_at, jobs_at, draw_at, job_mark}
+use Rattle.delivery_model.specs.Point.{packets_at, job_at, jobs_at, job_mark}
 use Rattle.delivery_model.specs.Kept.{IsOver, JobFits, PacketFits, IsKept}
-use Rattle.delivery_model.proofs.Grids.{has-points, has-points_within, has-empty, number_in-cut, number_in-map, length-cut}
+use Rattle.delivery_model.proofs.Grids.{has-points, has-points_within, has-empty, number_in-cut}
 use Rattle.delivery_model.proofs.MarkSteps.{IsGood, AllGood}
-use Rattle.delivery_model.proofs.PointSteps.{relief_at, lossy_at, IsDrawOf, kept_captured, kept_queued}
+use Rattle.delivery_model.proofs.PointSteps.{relief_at, lossy_at, kept_captured, kept_queued}
 use Rattle.delivery_model.proofs.Lists.{sizes_after-append, packets_at-append, jobs_at-append, any-jobs}
 
 -- a rectangle of the window has points of the window alone
-in_window : (w h : ℕ) (r : Rectangle) (x y : ℕ) → LiesIn w h r → is_in r x y ≡ true → is_within w h x y ≡ true
+pub in_window : (w h : ℕ) (r : Rectangle) (x y : ℕ) → LiesIn w h r → is_in r x y ≡ true → is_within w h x y ≡ true
 in_window w h r x y lies inside = grind (arith, nat_tests, lies.across, lies.down)
 
 job_fits : (w : Window) (region : Points) (k : ℕ) (p : Planned) → LiesIn w.desk.wide w.desk.high p.rect
     → (p.coding ≡ C.Lossy → (x y : ℕ) → is_in p.rect x y ≡ true → has region x y ≡ true) → JobFits w.desk.wide w.desk.high (job_of w.desk region k p)
 job_fits w region k p lies lossy = record {
-  pixels = record { sized = length-cut w.desk p.rect };
   within = lies;
   over = record { wide = refl; high = refl };
   inside = λ x y there. (and_parts _ _ (and_parts _ _ (rw (has-points w.desk.wide w.desk.high (λ x y. is_in p.rect x y && has region x y) x y) at there)).1).0;
@@ -91,15 +91,15 @@ good_jobs : (w : Window) (region : Points) (k : ℕ) (plan : List Planned) (x y 
 good_jobs w region k [] x y within = tt
 good_jobs w region k (p ∷ plan) x y within = (good_job w region k p x y within, good_jobs w region (k + 1) plan x y within)
 
-pub keeps_captured : (rules : Rules) (plan : List Planned) (first : ℕ) (w : Window) → IsPlan w plan → IsKept rules w → IsKept rules (captured plan first w)
-keeps_captured rules plan first w planned kept = record {
+pub keeps_captured : (plan : List Planned) (first : ℕ) (w : Window) → IsPlan w plan → IsKept w → IsKept (captured plan first w)
+keeps_captured plan first w planned kept = record {
   sized = kept.sized;
   jobs = All-append (JobFits w.desk.wide w.desk.high) w.jobs (jobs_of w.desk (region_taken w) first plan) kept.jobs (jobs_fit w (region_taken w) first plan planned.within planned.lossy);
   packets = kept.packets;
   pending = record { wide = refl; high = refl };
   lossy = kept.lossy;
   points = λ x y within. rw (has-points_within w.desk.wide w.desk.high (λ x y. false) x y within, jobs_at-append)
-      (kept_captured rules (number w.desk x y) (shown_at w.client x y) (packets_at rules (size_of w.client) w.packets x y) (jobs_at w.jobs x y) (jobs_at (jobs_of w.desk (region_taken w) first plan) x y) (has w.pending x y) (has w.lossy x y)
+      (kept_captured (number w.desk x y) (shown_at w.client x y) (packets_at (size_of w.client) w.packets x y) (jobs_at w.jobs x y) (jobs_at (jobs_of w.desk (region_taken w) first plan) x y) (has w.pending x y) (has w.lossy x y)
       (good_jobs w (region_taken w) first plan x y within)
       (λ pending. any-jobs (number w.desk x y) (jobs_of w.desk (region_taken w) first plan) x y ∙ pending_relieved w first plan planned x y within pending)
       (kept.points x y within));
@@ -113,7 +113,7 @@ jobs_at-with_result (j ∷ jobs) k x y = elim (cases_Bool (nat_eq j.number k)) [
   | inr other ↦ rw other (ap (λ js. job_at j x y ∷ js) (jobs_at-with_result jobs k x y))
 ]
 
-fit-with_result : (w h : ℕ) (jobs : List Job) (k : ℕ) → All (JobFits w h) jobs → All (JobFits w h) (with_result jobs k)
+pub fit-with_result : (w h : ℕ) (jobs : List Job) (k : ℕ) → All (JobFits w h) jobs → All (JobFits w h) (with_result jobs k)
 fit-with_result w h [] k fits = fits
 fit-with_result w h (j ∷ jobs) k fits = elim (cases_Bool (nat_eq j.number k)) [
   | inl same ↦ rw same (All-cons (JobFits w h) (record j { encoded = true }) jobs (again (All-head (JobFits w h) j jobs fits)) (All-tail (JobFits w h) j jobs fits))
@@ -121,10 +121,10 @@ fit-with_result w h (j ∷ jobs) k fits = elim (cases_Bool (nat_eq j.number k)) 
 ]
   where
     again : JobFits w h j → JobFits w h (record j { encoded = true })
-    again f = record { pixels = f.pixels; within = f.within; over = f.over; inside = f.inside; whole = f.whole }
+    again f = record { within = f.within; over = f.over; inside = f.inside; whole = f.whole }
 
-pub keeps_result : (rules : Rules) (k : ℕ) (w : Window) → IsKept rules w → IsKept rules (record w { jobs = with_result w.jobs k })
-keeps_result rules k w kept = record {
+pub keeps_result : (k : ℕ) (w : Window) → IsKept w → IsKept (record w { jobs = with_result w.jobs k })
+keeps_result k w kept = record {
   sized = kept.sized;
   jobs = fit-with_result w.desk.wide w.desk.high w.jobs k kept.jobs;
   packets = kept.packets;
@@ -160,17 +160,17 @@ relief_inside w j C.Exact fits x y there = which (or_cases _ _ (and_parts _ _ (r
     which (inr both) = (and_parts _ _ both).1
 relief_inside w j C.Lossy fits x y there = fits.inside x y there
 
-pub keeps_queued : (rules : Rules) (now : ℕ) (j : Job) (jobs : List Job) (w : Window) → IsKept rules (record w { jobs = j ∷ jobs }) → IsKept rules (record (queued rules now j w) { jobs = jobs })
-keeps_queued rules now j jobs w kept = record {
+pub keeps_queued : (now : ℕ) (j : Job) (jobs : List Job) (w : Window) → IsKept (record w { jobs = j ∷ jobs }) → IsKept (record (queued now j w) { jobs = jobs })
+keeps_queued now j jobs w kept = record {
   sized = rw sizes_after-append (rw kept.sized refl);
   jobs = All-tail (JobFits w.desk.wide w.desk.high) j jobs kept.jobs;
   packets = All-push (PacketFits w.desk.wide w.desk.high) w.packets (Draws draw) kept.packets
       (record { over = relief_over w j j.capture.coding fits; inside = relief_inside w j j.capture.coding fits });
   pending = kept.pending;
   lossy = lossy_over w j j.capture.coding;
-  points = λ x y within. rw (packets_at-append, kept.sized, has-lossy_queued w j j.capture.coding x y within)
-      (rw within (kept_queued rules (number w.desk x y) (shown_at w.client x y) (packets_at rules (size_of w.client) w.packets x y) (job_at j x y) (draw_at draw x y) (jobs_at jobs x y) (has w.pending x y) (has w.lossy x y)
-      (drawn x y) (has-relief_queued w j j.capture.coding x y within) (fits.inside x y) (kept.points x y within)));
+  points = λ x y within. rw (packets_at-append, kept.sized, has-lossy_queued w j j.capture.coding x y within, has-relief_queued w j j.capture.coding x y within)
+      (rw within (kept_queued (number w.desk x y) (shown_at w.client x y) (packets_at (size_of w.client) w.packets x y) (job_at j x y) (jobs_at jobs x y) (has w.pending x y) (has w.lossy x y)
+      (fits.inside x y) (kept.points x y within)));
 }
   where
     fits : JobFits w.desk.wide w.desk.high j
@@ -179,31 +179,22 @@ keeps_queued rules now j jobs w kept = record {
     draw : Draw
     draw = record {
       sequence = w.next_sequence;
-      rect = j.capture.rect;
-      coding = j.capture.coding;
-      shown = map (shown rules j.capture.coding) j.capture.pixels;
+      capture = j.capture;
       relief = relief_queued w j.capture.rect j.relief j.capture.coding;
     }
 
-    drawn : (x y : ℕ) → IsDrawOf rules (job_at j x y) (draw_at draw x y)
-    drawn x y = record {
-      covers = refl;
-      coding = refl;
-      number = λ inside. number_in-map (shown rules j.capture.coding) j.capture.rect j.capture.pixels x y fits.pixels.sized inside;
-    }
-
-pub keeps_ready : (rules : Rules) (now : ℕ) (jobs : List Job) (w : Window) → IsKept rules (record w { jobs = jobs }) → IsKept rules (queue_ready rules now jobs w)
-keeps_ready rules now [] w kept = kept
-keeps_ready rules now (j ∷ jobs) w kept = which j.encoded (keeps_ready rules now jobs (queued rules now j w) (keeps_queued rules now j jobs w kept))
+pub keeps_ready : (now : ℕ) (jobs : List Job) (w : Window) → IsKept (record w { jobs = jobs }) → IsKept (queue_ready now jobs w)
+keeps_ready now [] w kept = kept
+keeps_ready now (j ∷ jobs) w kept = which j.encoded (keeps_ready now jobs (queued now j w) (keeps_queued now j jobs w kept))
   where
-    which : (b : Bool) → IsKept rules (queue_ready rules now jobs (queued rules now j w)) → IsKept rules (cond b (queue_ready rules now jobs (queued rules now j w)) (record w { jobs = j ∷ jobs }))
+    which : (b : Bool) → IsKept (queue_ready now jobs (queued now j w)) → IsKept (cond b (queue_ready now jobs (queued now j w)) (record w { jobs = j ∷ jobs }))
     which true left = left
     which false left = kept
 
-pub keeps_filed : (rules : Rules) (k : ℕ) (capture : Captured) (now : ℕ) (w : Window) → IsKept rules w → IsKept rules (filed rules k capture now w)
-keeps_filed rules k capture now w kept = which (filing_of (capture_of w.jobs k) capture)
+pub keeps_filed : (k : ℕ) (capture : Captured) (now : ℕ) (w : Window) → IsKept w → IsKept (filed k capture now w)
+keeps_filed k capture now w kept = which (filing_of (capture_of w.jobs k) capture)
   where
-    which : (f : Filing) → IsKept rules (filed_as f rules k now w)
+    which : (f : Filing) → IsKept (filed_as f k now w)
     which Late = kept
     which Foreign = kept
-    which Filed = keeps_ready rules now (with_result w.jobs k) w (keeps_result rules k w kept)
+    which Filed = keeps_ready now (with_result w.jobs k) w (keeps_result k w kept)

@@ -7,5 +7,5 @@ pub mod JobSteps
 pub mod Steadies
 pub mod OwedSteps
 pub mod Runs
+pub mod Numberings
 pub mod Examples
-pub mod Filing

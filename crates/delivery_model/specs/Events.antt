@@ -1,13 +1,13 @@
 -- What happens to one window of one client. The rules are this project's own; each is stated where it stands.
-use Rattle.std.specs.Prelude.{ℕ, ◌+◌, ◌-◌, ◌/◌, ◌*◌, ◌≡◌, min, max, Bool, true, false, not, ◌&&◌, ◌||◌, Option, Some, None, List, [], ◌∷◌, ◌++◌, map, length, slice_index, nat_eq, nat_le, bytes_eq, if◌then◌else◌, All}
+use Rattle.std.specs.Prelude.{ℕ, ◌+◌, ◌-◌, ◌/◌, ◌*◌, min, max, Bool, true, false, not, ◌&&◌, ◌||◌, Option, Some, None, List, [], ◌∷◌, ◌++◌, map, length, slice_index, nat_eq, nat_le, bytes_eq, if◌then◌else◌}
 use Rattle.std.specs.List.{list_any}
 use Rattle.xp_base.specs.declared.coding.Coding.{Coding}
 use Rattle.xp_base.specs.declared.coding.Coding.TheVariants as C
-use Rattle.xp_base.specs.Points.{Rectangle, LiesIn, is_in, is_within, whole}
+use Rattle.xp_base.specs.Points.{Rectangle, is_in, is_within, survives, whole}
 use Rattle.xp_base.specs.Captures.{Captured}
 use Rattle.xp_base.specs.Grid.{place_of}
 use Rattle.delivery_model.specs.Grids.{Points, points, has, Grid, grid, number, cut}
-use Rattle.delivery_model.specs.Window.{Job, Packet, NewWindow, WindowResized, Draws, Sent, Window, Rules, shown}
+use Rattle.delivery_model.specs.Window.{Job, Packet, NewWindow, WindowResized, Draws, Sent, Window}
 use Rattle.delivery_model.specs.Client.{applied}
 
 -- no point is in the set
@@ -85,12 +85,6 @@ captured plan first w = record w {
   delay = if nat_le 32 (load w) then min 500 (2 * w.delay) else w.delay;
 }
 
--- what a plan gives: its rectangles lie in the window and have each point taken; a lossy one has no other point
-pub record IsPlan (w : Window) (plan : List Planned) : Type 0 where
-  pub within : All (λ (p : Planned). LiesIn w.desk.wide w.desk.high p.rect) plan
-  pub covers : (x y : ℕ) → has (region_taken w) x y ≡ true → list_any (λ (p : Planned). is_in p.rect x y) plan ≡ true
-  pub lossy : All (λ (p : Planned). p.coding ≡ C.Lossy → (x y : ℕ) → is_in p.rect x y ≡ true → has (region_taken w) x y ≡ true) plan
-
 -- an exact draw also relieves the lossy points in its rectangle, which stop being lossy; a lossy one makes its rectangle lossy since now
 abbrev pub relief_queued : Window → Rectangle → Points → Coding → Points
 relief_queued w rect relief C.Exact = points_of w (λ x y. has relief x y || (has w.lossy x y && is_in rect x y))
@@ -105,13 +99,11 @@ lossy_since_queued now w C.Exact = w.lossy_since
 lossy_since_queued now w C.Lossy = now
 
 -- the job's draw is queued with the next sequence number
-abbrev pub queued : Rules → ℕ → Job → Window → Window
-queued rules now j w = record w {
+abbrev pub queued : ℕ → Job → Window → Window
+queued now j w = record w {
   packets = w.packets ++ Draws (record {
     sequence = w.next_sequence;
-    rect = j.capture.rect;
-    coding = j.capture.coding;
-    shown = map (shown rules j.capture.coding) j.capture.pixels;
+    capture = j.capture;
     relief = relief_queued w j.capture.rect j.relief j.capture.coding;
   }) ∷ [];
   lossy = lossy_queued w j.capture.rect j.capture.coding;
@@ -121,9 +113,9 @@ queued rules now j w = record w {
 }
 
 -- the jobs at the front whose encodings came back leave in the order of their captures
-abbrev pub queue_ready : Rules → ℕ → List Job → Window → Window
-queue_ready rules now [] w = record w { jobs = [] }
-queue_ready rules now (j ∷ jobs) w = if j.encoded then queue_ready rules now jobs (queued rules now j w) else record w { jobs = j ∷ jobs }
+abbrev pub queue_ready : ℕ → List Job → Window → Window
+queue_ready now [] w = record w { jobs = [] }
+queue_ready now (j ∷ jobs) w = if j.encoded then queue_ready now jobs (queued now j w) else record w { jobs = j ∷ jobs }
 
 -- what the job in hand with this number captured
 abbrev pub capture_of : List Job → ℕ → Option Captured
@@ -159,22 +151,22 @@ filing_of None capture = Late
 filing_of (Some c) capture = if same_capture c capture then Filed else Foreign
 
 -- a late or foreign result changes nothing
-abbrev pub filed_as : Filing → Rules → ℕ → ℕ → Window → Window
-filed_as Late rules k now w = w
-filed_as Foreign rules k now w = w
-filed_as Filed rules k now w = queue_ready rules now (with_result w.jobs k) w
+abbrev pub filed_as : Filing → ℕ → ℕ → Window → Window
+filed_as Late k now w = w
+filed_as Foreign k now w = w
+filed_as Filed k now w = queue_ready now (with_result w.jobs k) w
 
-abbrev pub filed : Rules → ℕ → Captured → ℕ → Window → Window
-filed rules k capture now w = filed_as (filing_of (capture_of w.jobs k) capture) rules k now w
+abbrev pub filed : ℕ → Captured → ℕ → Window → Window
+filed k capture now w = filed_as (filing_of (capture_of w.jobs k) capture) k now w
 
 -- the front packet was wholly written
-abbrev pub written_front : Rules → List Packet → Window → Window
-written_front rules [] w = w
-written_front rules (p ∷ packets) w = record w { client = applied rules w.client p; packets = packets }
+abbrev pub written_front : (ℕ → ℕ) → List Packet → Window → Window
+written_front lossy_shows [] w = w
+written_front lossy_shows (p ∷ packets) w = record w { client = applied lossy_shows w.client p; packets = packets }
 
 -- a packet that was written in part counts for nothing
-abbrev pub written : Rules → Bool → Window → Window
-written rules wholly w = if wholly then written_front rules w.packets w else w
+abbrev pub written : (ℕ → ℕ) → Bool → Window → Window
+written lossy_shows wholly w = if wholly then written_front lossy_shows w.packets w else w
 
 -- the rectangle of the unacknowledged draw with this number, and the others
 abbrev pub rect_sent : List Sent → ℕ → Option Rectangle
@@ -219,11 +211,11 @@ with_relief w h kept (Draws d) = Draws (record d { relief = points w h (λ x y. 
 abbrev pub desk_resized : ℕ → ℕ → Grid → Grid
 desk_resized w h desk = grid w h (λ x y. if is_within desk.wide desk.high x y then number desk x y else 0)
 
--- a resize cancels all jobs in hand; the points that do not survive are pending, and those that were pending or relieved by a job;
+-- a resize cancels all jobs in hand; the new points are pending, and those that were pending or relieved by a job;
 -- lossy points and reliefs keep what survives
-abbrev pub resized_from : Rules → ℕ → ℕ → ℕ → ℕ → ℕ → Window → Window
-resized_from rules w0 h0 w h now old =
-    let kept : ℕ → ℕ → Bool = rules.survives w0 h0 w h in
+abbrev pub resized_from : ℕ → ℕ → ℕ → ℕ → ℕ → Window → Window
+resized_from w0 h0 w h now old =
+    let kept : ℕ → ℕ → Bool = survives w0 h0 w h in
     put_pending (points w h (λ x y. not (kept x y) || (has old.pending x y || jobs_relieve old.jobs x y))) now (record old {
       desk = desk_resized w h old.desk;
       packets = map (with_relief w h kept) old.packets ++ WindowResized w h ∷ [];
@@ -231,8 +223,8 @@ resized_from rules w0 h0 w h now old =
       lossy = points w h (λ x y. has old.lossy x y && kept x y);
     })
 
-abbrev pub resized : Rules → ℕ → ℕ → ℕ → Window → Window
-resized rules w h now old = resized_from rules old.desk.wide old.desk.high w h now old
+abbrev pub resized : ℕ → ℕ → ℕ → Window → Window
+resized w h now old = resized_from old.desk.wide old.desk.high w h now old
 
 pub data Event : Type 0 where
   -- attach or open, with the desktop's window
@@ -254,46 +246,37 @@ pub data Event : Type 0 where
   BufferRefresh : ℕ → Event
   Close : Event
 
--- the window after an event; none where it was closed
-abbrev pub changed : Rules → Event → Window → Option Window
-changed rules (Start desk now) w = Some w
-changed rules (Paint r numbers now) w = Some (damaged r now (record w { desk = painted r numbers w.desk }))
-changed rules (Capture plan first) w = Some (captured plan first w)
-changed rules (File k capture now) w = Some (filed rules k capture now w)
-changed rules (Write wholly) w = Some (written rules wholly w)
-changed rules (Acknowledge k negative now) w = Some (acknowledged k negative now w)
-changed rules MapWindow w = Some (record w { mapped = true })
-changed rules (UnmapWindow now) w = Some (unmapped now w)
-changed rules (Recall now) w = Some (given_back now w)
-changed rules (Resize w h now) old = Some (resized rules w h now old)
-changed rules (BufferRefresh now) w = Some (damaged (whole w.desk.wide w.desk.high) now w)
-changed rules Close w = None
+-- the window after an event; none where it was closed. `lossy_shows` is the number that a lossy draw shows for a number.
+abbrev pub changed : (ℕ → ℕ) → Event → Window → Option Window
+changed lossy_shows (Start desk now) w = Some w
+changed lossy_shows (Paint r numbers now) w = Some (damaged r now (record w { desk = painted r numbers w.desk }))
+changed lossy_shows (Capture plan first) w = Some (captured plan first w)
+changed lossy_shows (File k capture now) w = Some (filed k capture now w)
+changed lossy_shows (Write wholly) w = Some (written lossy_shows wholly w)
+changed lossy_shows (Acknowledge k negative now) w = Some (acknowledged k negative now w)
+changed lossy_shows MapWindow w = Some (record w { mapped = true })
+changed lossy_shows (UnmapWindow now) w = Some (unmapped now w)
+changed lossy_shows (Recall now) w = Some (given_back now w)
+changed lossy_shows (Resize w h now) old = Some (resized w h now old)
+changed lossy_shows (BufferRefresh now) w = Some (damaged (whole w.desk.wide w.desk.high) now w)
+changed lossy_shows Close w = None
 
 -- a window that is not there can be started, and nothing else happens to it; its number is never used again
-abbrev pub step : Rules → Option Window → Event → Option Window
-step rules None (Start desk now) = Some (started desk now)
-step rules None (Paint r numbers now) = None
-step rules None (Capture plan first) = None
-step rules None (File k capture now) = None
-step rules None (Write wholly) = None
-step rules None (Acknowledge k negative now) = None
-step rules None MapWindow = None
-step rules None (UnmapWindow now) = None
-step rules None (Recall now) = None
-step rules None (Resize w h now) = None
-step rules None (BufferRefresh now) = None
-step rules None Close = None
-step rules (Some w) e = changed rules e w
+abbrev pub step : (ℕ → ℕ) → Option Window → Event → Option Window
+step lossy_shows None (Start desk now) = Some (started desk now)
+step lossy_shows None (Paint r numbers now) = None
+step lossy_shows None (Capture plan first) = None
+step lossy_shows None (File k capture now) = None
+step lossy_shows None (Write wholly) = None
+step lossy_shows None (Acknowledge k negative now) = None
+step lossy_shows None MapWindow = None
+step lossy_shows None (UnmapWindow now) = None
+step lossy_shows None (Recall now) = None
+step lossy_shows None (Resize w h now) = None
+step lossy_shows None (BufferRefresh now) = None
+step lossy_shows None Close = None
+step lossy_shows (Some w) e = changed lossy_shows e w
 
-abbrev pub run : Rules → Option Window → List Event → Option Window
-run rules o [] = o
-run rules o (e ∷ events) = run rules (step rules o e) events
-
--- what an event has to be: a capture follows a plan
-abbrev pub IsEvent : Option Window → Event → Type 0
-IsEvent (Some w) (Capture plan first) = IsPlan w plan
-IsEvent o e = Unit {0}
-
-abbrev pub AreEvents : Rules → Option Window → List Event → Type 0
-AreEvents rules o [] = Unit {0}
-AreEvents rules o (e ∷ events) = IsEvent o e × AreEvents rules (step rules o e) events
+abbrev pub run : (ℕ → ℕ) → Option Window → List Event → Option Window
+run lossy_shows o [] = o
+run lossy_shows o (e ∷ events) = run lossy_shows (step lossy_shows o e) events

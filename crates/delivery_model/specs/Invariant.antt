@@ -4,7 +4,7 @@ use Rattle.std.specs.List.{list_any}
 use Rattle.xp_base.specs.declared.coding.Coding.TheVariants as C
 use Rattle.xp_base.specs.Points.{LiesIn, is_in, is_within}
 use Rattle.delivery_model.specs.Grids.{has, number, number_in, shown_at}
-use Rattle.delivery_model.specs.Window.{Job, Draw, Packet, NewWindow, WindowResized, Draws, Window, Rules, shown}
+use Rattle.delivery_model.specs.Window.{Job, Draw, Packet, NewWindow, WindowResized, Draws, Window}
 use Rattle.delivery_model.specs.Client.{size_of, sizes_after, in_size}
 use Rattle.delivery_model.specs.Events.{jobs_relieve}
 use Rattle.delivery_model.specs.Owed.{packets_relieve, is_owed}
@@ -14,7 +14,7 @@ use Rattle.delivery_model.specs.Point.{is_exact}
 abbrev pub ShownUnlessOwed : Window → Type 0
 ShownUnlessOwed w = (x y : ℕ) → is_within w.desk.wide w.desk.high x y ≡ true → is_owed w x y ≡ false → shown_at w.client x y ≡ Some (number w.desk x y)
 
--- a waiting draw or a job in hand at a point: whether its rectangle has it, whether it carries the desktop's number there,
+-- a waiting draw or a job in hand at a point: whether its rectangle has it, whether it captured the desktop's number there,
 -- whether it is exact (a job counts as such), whether it relieves the point
 pub record Item : Type 0 where
   pub covers : Bool
@@ -22,12 +22,11 @@ pub record Item : Type 0 where
   pub exact : Bool
   pub relieves : Bool
 
--- a waiting draw carries a number where it shows what its coding shows of it
-abbrev pub draw_item : Rules → Window → ℕ → ℕ → Draw → Item
-draw_item rules w x y d = record {
-  covers = is_in d.rect x y;
-  current = nat_eq (number_in d.rect d.shown x y) (shown rules d.coding (number w.desk x y));
-  exact = is_exact d.coding;
+abbrev pub draw_item : Window → ℕ → ℕ → Draw → Item
+draw_item w x y d = record {
+  covers = is_in d.capture.rect x y;
+  current = nat_eq (number_in d.capture.rect d.capture.pixels x y) (number w.desk x y);
+  exact = is_exact d.capture.coding;
   relieves = has d.relief x y;
 }
 
@@ -46,8 +45,8 @@ draws_of (WindowResized w h ∷ packets) = draws_of packets
 draws_of (Draws d ∷ packets) = d ∷ draws_of packets
 
 -- the window's waiting draws and then its jobs in hand
-abbrev pub items : Rules → Window → ℕ → ℕ → List Item
-items rules w x y = map (draw_item rules w x y) (draws_of w.packets) ++ map (job_item w x y) w.jobs
+abbrev pub items : Window → ℕ → ℕ → List Item
+items w x y = map (draw_item w x y) (draws_of w.packets) ++ map (job_item w x y) w.jobs
 
 abbrev pub any_item_relieves : List Item → Bool
 any_item_relieves is = list_any (λ (i : Item). i.relieves) is
@@ -57,14 +56,14 @@ abbrev pub from_start : List Item → List Item
 from_start [] = []
 from_start (i ∷ is) = if any_item_relieves is then from_start is else i ∷ is
 
--- newest covering draws are current: at a point that is not pending each of these items over it carries the desktop's number,
+-- newest covering draws are current: at a point that is not pending each of these items over it captured the desktop's number,
 -- and where it is not lossy either, each waiting draw among them is exact
-pub record IsCurrent (rules : Rules) (w : Window) (x y : ℕ) : Type 0 where
-  pub current : All (λ (i : Item). i.covers ≡ true → i.current ≡ true) (from_start (items rules w x y))
-  pub exact : has w.lossy x y ≡ false → All (λ (i : Item). i.covers ≡ true → i.exact ≡ true) (from_start (items rules w x y))
+pub record IsCurrent (w : Window) (x y : ℕ) : Type 0 where
+  pub current : All (λ (i : Item). i.covers ≡ true → i.current ≡ true) (from_start (items w x y))
+  pub exact : has w.lossy x y ≡ false → All (λ (i : Item). i.covers ≡ true → i.exact ≡ true) (from_start (items w x y))
 
-abbrev pub NewestAreCurrent : Rules → Window → Type 0
-NewestAreCurrent rules w = (x y : ℕ) → is_within w.desk.wide w.desk.high x y ≡ true → has w.pending x y ≡ false → IsCurrent rules w x y
+abbrev pub NewestAreCurrent : Window → Type 0
+NewestAreCurrent w = (x y : ℕ) → is_within w.desk.wide w.desk.high x y ≡ true → has w.pending x y ≡ false → IsCurrent w x y
 
 -- pending, or in the relief of an item behind a packet
 abbrev pub owed_behind : Window → List Packet → ℕ → ℕ → Bool
@@ -80,12 +79,9 @@ pub record IsAnew (w : Window) (front behind : List Packet) : Type 0 where
   pub free : (x y : ℕ) → packets_relieve front x y ≡ false
   pub owed : (x y : ℕ) → is_within w.desk.wide w.desk.high x y ≡ true → owed_behind w behind x y ≡ true
 
--- nothing is owed only in front of a window packet, where a resize makes the client's window anew
-abbrev pub NothingInFrontAnew : Window → Type 0
-NothingInFrontAnew w = (front : List Packet) (p : Packet) (behind : List Packet) → IsWindowPacket p → w.packets ≡ front ++ p ∷ behind → IsAnew w front behind
-
--- the same, where a resize keeps the overlap: no relief in front of it leaves its size, and points that come with a size are owed behind it
-pub record NothingInFrontKept (w : Window) : Type 0 where
+-- nothing is owed only in front of a window packet: of an announcement nothing, of a change of size no relief outside the size
+-- that it gives; and points that come with a size are owed behind it
+pub record NothingInFront (w : Window) : Type 0 where
   pub announced : (front : List Packet) (wide high : ℕ) (behind : List Packet) → w.packets ≡ front ++ NewWindow wide high ∷ behind → IsAnew w front behind
   pub resized : (front : List Packet) (wide high : ℕ) (behind : List Packet) → w.packets ≡ front ++ WindowResized wide high ∷ behind
       → (x y : ℕ) → packets_relieve front x y ≡ true → is_within wide high x y ≡ true
@@ -100,9 +96,10 @@ LossyJobsOweAll w = All (λ (j : Job). j.capture.coding ≡ C.Lossy → (x y : �
 abbrev pub JobsLieInside : Window → Type 0
 JobsLieInside w = All (λ (j : Job). LiesIn w.desk.wide w.desk.high j.capture.rect) w.jobs
 
--- what holds in both versions
-pub record IsSteady (rules : Rules) (w : Window) : Type 0 where
+-- the invariant of a window
+pub record IsSteady (w : Window) : Type 0 where
   pub inside : JobsLieInside w
   pub shown : ShownUnlessOwed w
-  pub current : NewestAreCurrent rules w
+  pub current : NewestAreCurrent w
+  pub fronts : NothingInFront w
   pub lossy : LossyJobsOweAll w

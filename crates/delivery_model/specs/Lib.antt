@@ -3,11 +3,12 @@ pub mod Window
 pub mod Client
 pub mod Events
 pub mod Refusals
+pub mod Plans
 pub mod Owed
 pub mod Marks
 pub mod Point
 pub mod Kept
 pub mod Changes
+pub mod Invariant
 pub mod Numbers
 pub mod Laws
-pub mod Invariant

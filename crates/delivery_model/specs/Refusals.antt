@@ -39,6 +39,14 @@ capture_answer now weight first w =
     else if nat_le (2 ^ 62) first then Spent
     else Allowed
 
+-- in the last captures of a run damage does not wait, and neither load nor weight refuses
+abbrev pub last_capture_answer : ℕ → Window → CaptureAnswer
+last_capture_answer first w =
+    if not w.mapped then Unmapped
+    else if is_clean w then Clean
+    else if nat_le (2 ^ 62) first then Spent
+    else Allowed
+
 abbrev pub is_allowed : CaptureAnswer → Bool
 is_allowed Unmapped = false
 is_allowed Clean = false

@@ -5,9 +5,10 @@
 mod laws;
 
 pub use laws::{
-    cancelled_numbers_never_come_back, closing_leaves_no_job, every_event_changes_owed_as_stated,
-    every_event_keeps_the_form, every_run_keeps_the_form, filing_asks_no_version,
-    form_gives_invariant, giving_back_moves_reliefs, job_in_hand_was_in_hand, late_where_gone,
-    nothing_in_front_anew, nothing_in_front_kept, resize_anew, resize_keeping, start_owes_all,
-    unowed_is_shown, versions_are_lawful,
+    cancelled_numbers_never_come_back, closing_leaves_no_job, empty_sets_have_no_point,
+    every_event_changes_owed_as_stated, every_event_keeps_the_form,
+    every_event_keeps_the_numbering, every_run_keeps_the_form, form_gives_invariant,
+    giving_back_moves_reliefs, grids_are_their_numbers, job_in_hand_was_in_hand, late_where_gone,
+    numbering_waits, points_are_their_tests, resize_keeps_the_overlap, rising_is_distinct,
+    start_owes_all, unowed_is_shown,
 };

@@ -74,6 +74,11 @@ abbrev pub PacketIsHeard : Type 0
 PacketIsHeard = (given : List Packet) (p : Packet) → (talk_of None given).fault ≡ None
     → talk_of None (given ++ p ∷ []) ≡ more_said (talk_of None given) p (talk_of None given).first
 
+-- behind packets without a fault, a first one among them, the later ones are heard next
+abbrev pub LaterAreHeard : Type 0
+LaterAreHeard = (fault : Option Fault) (given more : List Packet) → (talk_of None given).first ≢ None → (talk_of None given).fault ≡ None
+    → talk_of fault (given ++ more) ≡ record (talk_of None given) { said = (talk_of None given).said ++ (heard fault more).said; fault = (heard fault more).fault }
+
 -- packets without a fault that are followed by a fault of the bytes end in it
 abbrev pub FaultIsHeard : Type 0
 FaultIsHeard = (given : List Packet) (f : Fault) → (talk_of None given).fault ≡ None

@@ -1,8 +1,7 @@
 -- A window that is played plainly, seen as the model's window.
 use Rattle.std.specs.Prelude.{ℕ, ◌+◌, ◌*◌, ◌/◌, Bool, ◌&&◌, List, [], ◌∷◌, nat_lt, if◌then◌else◌}
 use Rattle.xp_base.specs.Counts.{greatest}
-use Rattle.xp_base.specs.Points.{is_within}
-use Rattle.delivery_model.specs.Window.{Job, Packet, NewWindow, WindowResized, Draws, Rules}
+use Rattle.delivery_model.specs.Window.{Job, Packet, NewWindow, WindowResized, Draws}
 use Rattle.delivery_model.specs.Events.{Planned, Filing, Late, Foreign, Filed}
 use Rattle.delivery_model.specs.Refusals.{CaptureAnswer, Unmapped, Clean, Early, Congested, Heavy, Spent, Allowed}
 use Rattle.plain_window.specs.declared.captures.PlainCapture.{PlainCapture}
@@ -26,10 +25,6 @@ plan_seen p = record { rect = p.rect; coding = p.coding }
 -- a lossy draw of a plain window shows the even number below
 abbrev pub even_below : ℕ → ℕ
 even_below n = n / 2 * 2
-
--- whether a resize keeps the overlap
-abbrev pub plain_rules : Bool → Rules
-plain_rules keeps = record { lossy_shows = even_below; survives = λ w0 h0 w h x y. keeps && (is_within w0 h0 x y && is_within w h x y) }
 
 abbrev pub filing_seen : PlainFiling → Filing
 filing_seen F.Late = Late

@@ -37,7 +37,7 @@ fn copied_draw(alloc: Global, draw: &PlainDraw) -> Result<PlainDraw, NoMemory>
         sequence: draw.sequence,
         rect: draw.rect,
         coding: draw.coding,
-        shown: Vec::from_slice(alloc, draw.shown.as_slice())?,
+        pixels: Vec::from_slice(alloc, draw.pixels.as_slice())?,
         relief: draw.relief.copy(alloc)?,
     })
 }

@@ -1,50 +1,27 @@
 // Results, what is written, and a resize, of a window that is played plainly.
 ghost use Rattle.std.specs.Prelude.{◌≡◌, ◌≤◌, ◌<◌, ◌^◌, ◌&&◌, ◌||◌, not, false, if◌then◌else◌, IfOk, OnOk, OnErr, map, nat_le, Some, [], ◌∷◌, ◌++◌};
 ghost use Rattle.xp_base.specs.Counts.{greatest};
-ghost use Rattle.xp_base.specs.Points.{is_in};
+ghost use Rattle.xp_base.specs.Points.{is_in, survives};
 ghost use Rattle.delivery_model.specs.Grids.{grid, number, number_in, points, has};
-ghost use Rattle.delivery_model.specs.Window.{WindowResized, shown};
-ghost use Rattle.delivery_model.specs.Client.{applied};
+ghost use Rattle.delivery_model.specs.Window.{WindowResized};
+ghost use Rattle.delivery_model.specs.Client.{applied, shown};
 ghost use Rattle.delivery_model.specs.Events.{queued, relief_queued, lossy_queued, written, resized, resized_from, desk_resized, jobs_relieve, with_relief};
-ghost use Rattle.plain_window.specs.Plain.{plain_rules, packet_seen};
+ghost use Rattle.plain_window.specs.Plain.{even_below, packet_seen};
 
 use crate::parts::{PlainDraw, PlainJob, PlainPacket, PlainSent};
-use crate::selections::{Kept, OwedAnew, Sizes, Surviving};
+use crate::selections::{Kept, OwedAnew, Sizes, Surviving, WithDraw};
 use crate::window::PlainWindow;
-use point_grids::{
-    Drawn, OneNumber, PixelGrid, PointSet, Resized, WithLossy, WithRect, WithoutRect,
-};
+use point_grids::{OneNumber, PixelGrid, PointSet, Resized, WithLossy, WithRect, WithoutRect};
 use std::alloc::Global;
 use xp_base::{Coding, NoMemory, Rect};
-
-/// The number that a draw of this coding shows for a number.
-pub fn shown(coding: Coding, number: u32) -> u32
-    ensures { result ≡ shown (plain_rules false) coding number }
-{
-    match coding {
-        Coding::Exact => number,
-        Coding::Lossy => number / 2 * 2,
-    }
-}
-
-fn all_shown(alloc: Global, coding: Coding, numbers: &[u32]) -> Result<Vec<u32>, NoMemory>
-    ensures { IfOk result (λ v. v.items ≡ map (shown (plain_rules false) coding) numbers.now) }
-{
-    let mut all = Vec::new(alloc);
-    for number in numbers {
-        all.push(shown(coding, *number))?;
-    }
-    Ok(all)
-}
 
 /// What a packet does to the client's window.
 fn apply(
     alloc: Global,
-    keeps: bool,
     client: &mut Option<PixelGrid>,
     packet: &PlainPacket,
 ) -> Result<(), NoMemory>
-    ensures ok { OnOk result (client.new ≡ applied (plain_rules keeps) client.old (packet_seen packet.now)) }
+    ensures ok { OnOk result (client.new ≡ applied even_below client.old (packet_seen packet.now)) }
     ensures err { OnErr result (client.new ≡ client.old) }
 {
     match packet {
@@ -56,7 +33,7 @@ fn apply(
         }
         PlainPacket::WindowResized { size } => {
             if let Some(grid) = client {
-                *grid = resized_client(alloc, keeps, grid, *size)?;
+                *grid = resized_client(alloc, grid, *size)?;
             }
         }
         PlainPacket::Draws(draw) => {
@@ -68,17 +45,11 @@ fn apply(
     Ok(())
 }
 
-fn resized_client(
-    alloc: Global,
-    keeps: bool,
-    old: &PixelGrid,
-    size: Rect,
-) -> Result<PixelGrid, NoMemory>
-    ensures { IfOk result (λ g. Some g ≡ applied (plain_rules keeps) (Some old.now) (WindowResized size.w size.h)) }
+fn resized_client(alloc: Global, old: &PixelGrid, size: Rect) -> Result<PixelGrid, NoMemory>
+    ensures { IfOk result (λ g. Some g ≡ applied even_below (Some old.now) (WindowResized size.w size.h)) }
 {
     let _area = size.area();
     let sizes = Sizes {
-        keeps,
         wide_before: old.wide(),
         high_before: old.high(),
         wide: size.w,
@@ -88,12 +59,13 @@ fn resized_client(
 }
 
 fn drawn_client(alloc: Global, old: &PixelGrid, draw: &PlainDraw) -> Result<PixelGrid, NoMemory>
-    ensures { IfOk result (λ g. g ≡ grid old.now.wide old.now.high (λ x y. if is_in draw.now.rect x y then number_in draw.now.rect draw.now.shown x y else number old.now x y)) }
+    ensures { IfOk result (λ g. g ≡ grid old.now.wide old.now.high (λ x y. if is_in draw.now.capture.rect x y then shown even_below draw.now.capture.coding (number_in draw.now.capture.rect draw.now.capture.pixels x y) else number old.now x y)) }
 {
-    let new = Drawn {
+    let new = WithDraw {
         grid: old,
         rect: draw.rect,
-        shown: draw.shown.as_slice(),
+        coding: draw.coding,
+        pixels: draw.pixels.as_slice(),
     };
     Ok(PixelGrid::of(alloc, old.wide(), old.high(), &new)?)
 }
@@ -101,21 +73,15 @@ fn drawn_client(alloc: Global, old: &PixelGrid, draw: &PlainDraw) -> Result<Pixe
 impl PlainWindow {
     /// Bytes of the front packet were written: `taken` of the `left` that were left. A packet counts
     /// once its last byte was written.
-    pub fn write(
-        &mut self,
-        alloc: Global,
-        keeps: bool,
-        left: u32,
-        taken: u32,
-    ) -> Result<(), NoMemory>
-        ensures ok { OnOk result (self.new ≡ written (plain_rules keeps) (nat_le left taken) self.old) }
+    pub fn write(&mut self, alloc: Global, left: u32, taken: u32) -> Result<(), NoMemory>
+        ensures ok { OnOk result (self.new ≡ written even_below (nat_le left taken) self.old) }
         ensures err { OnErr result (self.new ≡ self.old) }
         ensures last { OnErr result (left ≤ taken) }
     {
         if taken < left || self.packets.is_empty() {
             return Ok(());
         }
-        apply(alloc, keeps, &mut self.client, &self.packets[0])?;
+        apply(alloc, &mut self.client, &self.packets[0])?;
         self.packets.remove(0);
         Ok(())
     }
@@ -126,7 +92,7 @@ impl PlainWindow {
     pub(crate) fn queue(&mut self, alloc: Global, job: PlainJob, now: u64) -> Result<(), NoMemory>
         requires clock { now ≤ 2 ^ 62 }
         requires number { self.old.next_sequence < greatest }
-        ensures { OnOk result (self.new ≡ queued (plain_rules false) now job self.old) }
+        ensures { OnOk result (self.new ≡ queued now job self.old) }
     {
         let PlainJob {
             number: _,
@@ -136,14 +102,13 @@ impl PlainWindow {
             relief,
             encoded: _,
         } = job;
-        let shown = all_shown(alloc, coding, pixels.as_slice())?;
         let relief = self.relief_queued(alloc, rect, coding, relief)?;
         let lossy = self.lossy_queued(alloc, rect, coding)?;
         self.packets.push(PlainPacket::Draws(PlainDraw {
             sequence: self.next_sequence,
             rect,
             coding,
-            shown,
+            pixels,
             relief,
         }))?;
         self.unacknowledged.push(PlainSent {
@@ -213,22 +178,14 @@ impl PlainWindow {
         }
     }
 
-    /// The server's window and the client's get another size. `keeps` tells whether the client keeps
-    /// what both sizes share.
+    /// The server's window and the client's get another size; the client keeps what both sizes share.
     #[tactic(auto, using(crate::proofs::Resizing::resized_same))]
-    pub fn resize(
-        &mut self,
-        alloc: Global,
-        keeps: bool,
-        size: Rect,
-        now: u64,
-    ) -> Result<(), NoMemory>
+    pub fn resize(&mut self, alloc: Global, size: Rect, now: u64) -> Result<(), NoMemory>
         requires clock { now ≤ 2 ^ 62 }
-        ensures ok { OnOk result (self.new ≡ resized (plain_rules keeps) size.w size.h now self.old) }
+        ensures ok { OnOk result (self.new ≡ resized size.w size.h now self.old) }
         ensures err { OnErr result (self.new ≡ self.old) }
     {
         let sizes = Sizes {
-            keeps,
             wide_before: self.desk.wide(),
             high_before: self.desk.high(),
             wide: size.w,
@@ -248,7 +205,7 @@ impl PlainWindow {
         requires wide { sizes.wide ≡ size.w }
         requires high { sizes.high ≡ size.h }
         requires clock { now ≤ 2 ^ 62 }
-        ensures ok { OnOk result (self.new ≡ resized_from (plain_rules sizes.keeps) sizes.wide_before sizes.high_before sizes.wide sizes.high now self.old) }
+        ensures ok { OnOk result (self.new ≡ resized_from sizes.wide_before sizes.high_before sizes.wide sizes.high now self.old) }
         ensures err { OnErr result (self.new ≡ self.old) }
     {
         let _area = size.area();
@@ -275,7 +232,7 @@ impl PlainWindow {
     fn pending_resized(&self, alloc: Global, sizes: Sizes) -> Result<PointSet, NoMemory>
         requires some { (1 ≤ sizes.wide) × (sizes.wide ≤ 4096) }
         requires any { (1 ≤ sizes.high) × (sizes.high ≤ 4096) }
-        ensures { IfOk result (λ p. p ≡ points sizes.wide sizes.high (λ x y. not ((plain_rules sizes.keeps).survives sizes.wide_before sizes.high_before sizes.wide sizes.high x y) || (has self.now.pending x y || jobs_relieve self.now.jobs x y))) }
+        ensures { IfOk result (λ p. p ≡ points sizes.wide sizes.high (λ x y. not (survives sizes.wide_before sizes.high_before sizes.wide sizes.high x y) || (has self.now.pending x y || jobs_relieve self.now.jobs x y))) }
     {
         let owed = OwedAnew {
             sizes,
@@ -288,7 +245,7 @@ impl PlainWindow {
     fn lossy_resized(&self, alloc: Global, sizes: Sizes) -> Result<PointSet, NoMemory>
         requires some { (1 ≤ sizes.wide) × (sizes.wide ≤ 4096) }
         requires any { (1 ≤ sizes.high) × (sizes.high ≤ 4096) }
-        ensures { IfOk result (λ p. p ≡ points sizes.wide sizes.high (λ x y. has self.now.lossy x y && (plain_rules sizes.keeps).survives sizes.wide_before sizes.high_before sizes.wide sizes.high x y)) }
+        ensures { IfOk result (λ p. p ≡ points sizes.wide sizes.high (λ x y. has self.now.lossy x y && survives sizes.wide_before sizes.high_before sizes.wide sizes.high x y)) }
     {
         let surviving = Surviving {
             sizes,
@@ -306,7 +263,7 @@ impl PlainWindow {
     ) -> Result<Vec<PlainPacket>, NoMemory>
         requires wide { sizes.wide ≡ size.w }
         requires high { sizes.high ≡ size.h }
-        ensures { IfOk result (λ v. map packet_seen v.items ≡ map (with_relief sizes.wide sizes.high ((plain_rules sizes.keeps).survives sizes.wide_before sizes.high_before sizes.wide sizes.high)) self.now.packets ++ WindowResized sizes.wide sizes.high ∷ []) }
+        ensures { IfOk result (λ v. map packet_seen v.items ≡ map (with_relief sizes.wide sizes.high (survives sizes.wide_before sizes.high_before sizes.wide sizes.high)) self.now.packets ++ WindowResized sizes.wide sizes.high ∷ []) }
     {
         let _area = size.area();
         let mut packets = cut_all(alloc, sizes, self.packets.as_slice())?;
@@ -319,7 +276,7 @@ impl PlainWindow {
 fn cut_packet(alloc: Global, sizes: Sizes, packet: &PlainPacket) -> Result<PlainPacket, NoMemory>
     requires some { (1 ≤ sizes.wide) × (sizes.wide ≤ 4096) }
     requires high { sizes.high ≤ 4096 }
-    ensures { IfOk result (λ p. packet_seen p ≡ with_relief sizes.wide sizes.high ((plain_rules sizes.keeps).survives sizes.wide_before sizes.high_before sizes.wide sizes.high) (packet_seen packet.now)) }
+    ensures { IfOk result (λ p. packet_seen p ≡ with_relief sizes.wide sizes.high (survives sizes.wide_before sizes.high_before sizes.wide sizes.high) (packet_seen packet.now)) }
 {
     match packet {
         PlainPacket::NewWindow { size } => Ok(PlainPacket::NewWindow { size: *size }),
@@ -330,12 +287,12 @@ fn cut_packet(alloc: Global, sizes: Sizes, packet: &PlainPacket) -> Result<Plain
                 set: &draw.relief,
             };
             let relief = PointSet::of(alloc, sizes.wide, sizes.high, &test)?;
-            let shown = Vec::from_slice(alloc, draw.shown.as_slice())?;
+            let pixels = Vec::from_slice(alloc, draw.pixels.as_slice())?;
             Ok(PlainPacket::Draws(PlainDraw {
                 sequence: draw.sequence,
                 rect: draw.rect,
                 coding: draw.coding,
-                shown,
+                pixels,
                 relief,
             }))
         }
@@ -349,7 +306,7 @@ fn cut_all(
 ) -> Result<Vec<PlainPacket>, NoMemory>
     requires some { (1 ≤ sizes.wide) × (sizes.wide ≤ 4096) }
     requires high { sizes.high ≤ 4096 }
-    ensures { IfOk result (λ v. map packet_seen v.items ≡ map (with_relief sizes.wide sizes.high ((plain_rules sizes.keeps).survives sizes.wide_before sizes.high_before sizes.wide sizes.high)) (map packet_seen packets.now)) }
+    ensures { IfOk result (λ v. map packet_seen v.items ≡ map (with_relief sizes.wide sizes.high (survives sizes.wide_before sizes.high_before sizes.wide sizes.high)) (map packet_seen packets.now)) }
 {
     let mut cut = Vec::new(alloc);
     for packet in packets {

@@ -11,9 +11,9 @@ mod selections;
 mod window;
 
 pub use captures::PlainCapture;
-pub use draws::shown;
 pub use parts::{PlainDraw, PlainJob, PlainPacket, PlainPlanned, PlainSent};
 pub use replies::{PlainFiling, PlainRefusal};
+pub use selections::shown;
 pub use window::PlainWindow;
 
 #[cfg(test)]

@@ -42,7 +42,7 @@ pub struct PlainDraw {
     pub sequence: u64,
     pub rect: Rect,
     pub coding: Coding,
-    pub shown: Vec<u32>,
+    pub pixels: Vec<u32>,
     pub relief: PointSet,
 }
 
@@ -53,9 +53,7 @@ impl Model for PlainDraw {
 
     ghost view = { λ d. record {
       sequence = d.sequence;
-      rect = d.rect;
-      coding = d.coding;
-      shown = d.shown.items;
+      capture = record { rect = d.rect; coding = d.coding; pixels = d.pixels.items };
       relief = d.relief;
     } };
 }

@@ -2,7 +2,7 @@
 ghost use Rattle.std.specs.Prelude.{◌≡◌, ◌≤◌, ◌+◌, ◌^◌, false, IfOk, IfErr, IsSome, OnOk, OnErr, bytes_eq};
 ghost use Rattle.xp_base.specs.Counts.{greatest};
 ghost use Rattle.delivery_model.specs.Events.{queue_ready, with_result, same_coding, same_rectangle, same_capture, filing_of, capture_of, filed, filed_as, Filed, rect_sent, without_sent, acknowledged};
-ghost use Rattle.plain_window.specs.Plain.{plain_rules, filing_seen, ready_count, refusal_at};
+ghost use Rattle.plain_window.specs.Plain.{filing_seen, ready_count, refusal_at};
 
 use crate::parts::{PlainJob, PlainSent};
 use crate::window::PlainWindow;
@@ -154,10 +154,10 @@ impl PlainWindow {
     ) -> Result<PlainFiling, PlainRefusal>
         requires clock { now ≤ 2 ^ 62 }
         ensures answer { IfOk result (λ f. filing_seen f ≡ filing_of (capture_of self.old.jobs number) (record { rect = rect; coding = coding; pixels = pixels.now })) }
-        ensures ok { OnOk result (self.new ≡ filed (plain_rules false) number (record { rect = rect; coding = coding; pixels = pixels.now }) now self.old) }
-        ensures numbered { OnOk result ((filed (plain_rules false) number (record { rect = rect; coding = coding; pixels = pixels.now }) now self.old).next_sequence ≤ greatest) }
+        ensures ok { OnOk result (self.new ≡ filed number (record { rect = rect; coding = coding; pixels = pixels.now }) now self.old) }
+        ensures numbered { OnOk result ((filed number (record { rect = rect; coding = coding; pixels = pixels.now }) now self.old).next_sequence ≤ greatest) }
         ensures err { OnErr result (self.new ≡ self.old) }
-        ensures cause { IfErr result (λ e. e ≡ refusal_at (filed (plain_rules false) number (record { rect = rect; coding = coding; pixels = pixels.now }) now self.old).next_sequence) }
+        ensures cause { IfErr result (λ e. e ≡ refusal_at (filed number (record { rect = rect; coding = coding; pixels = pixels.now }) now self.old).next_sequence) }
         ensures last { OnErr result (filing_of (capture_of self.old.jobs number) (record { rect = rect; coding = coding; pixels = pixels.now }) ≡ Filed) }
     {
         match filing_of(self.jobs.as_slice(), number, rect, coding, pixels) {
@@ -174,10 +174,10 @@ impl PlainWindow {
     #[tactic(auto, using(crate::proofs::Ready::next_filed))]
     fn file_result(&mut self, alloc: Global, number: u64, now: u64) -> Result<(), PlainRefusal>
         requires clock { now ≤ 2 ^ 62 }
-        ensures ok { OnOk result (self.new ≡ filed_as Filed (plain_rules false) number now self.old) }
+        ensures ok { OnOk result (self.new ≡ filed_as Filed number now self.old) }
         ensures err { OnErr result (self.new ≡ self.old) }
-        ensures numbered { OnOk result ((filed_as Filed (plain_rules false) number now self.old).next_sequence ≤ greatest) }
-        ensures cause { IfErr result (λ e. e ≡ refusal_at (filed_as Filed (plain_rules false) number now self.old).next_sequence) }
+        ensures numbered { OnOk result ((filed_as Filed number now self.old).next_sequence ≤ greatest) }
+        ensures cause { IfErr result (λ e. e ≡ refusal_at (filed_as Filed number now self.old).next_sequence) }
     {
         let count = leaving(self.jobs.as_slice(), number);
         if count > u64::MAX - self.next_sequence {
@@ -196,7 +196,7 @@ impl PlainWindow {
     fn filed(&self, alloc: Global, number: u64, now: u64) -> Result<PlainWindow, NoMemory>
         requires clock { now ≤ 2 ^ 62 }
         requires numbers { self.now.next_sequence + ready_count (with_result self.now.jobs number) ≤ greatest }
-        ensures { IfOk result (λ w. w ≡ filed_as Filed (plain_rules false) number now self.now) }
+        ensures { IfOk result (λ w. w ≡ filed_as Filed number now self.now) }
     {
         let mut filed = self.copy(alloc)?;
         filed.mark(alloc, number)?;
@@ -245,7 +245,7 @@ impl PlainWindow {
     fn queue_ready(&mut self, alloc: Global, now: u64) -> Result<(), NoMemory>
         requires clock { now ≤ 2 ^ 62 }
         requires numbers { self.old.next_sequence + ready_count self.old.jobs ≤ greatest }
-        ensures { OnOk result (self.new ≡ queue_ready (plain_rules false) now self.old.jobs self.old) }
+        ensures { OnOk result (self.new ≡ queue_ready now self.old.jobs self.old) }
     {
         while !self.jobs.is_empty() && self.jobs[0].encoded {
             let job = self.jobs.remove(0);

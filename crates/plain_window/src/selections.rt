@@ -3,10 +3,13 @@ ghost use Rattle.std.specs.Prelude.{◌≡◌, map};
 ghost use Rattle.std.specs.List.{list_any};
 ghost use Rattle.delivery_model.specs.Owed.{packet_relieves, packets_relieve};
 ghost use Rattle.delivery_model.specs.Events.{jobs_relieve};
-ghost use Rattle.plain_window.specs.Plain.{plain_rules, packet_seen};
+ghost use Rattle.xp_base.specs.Points.{survives};
+ghost use Rattle.delivery_model.specs.Client.{shown};
+ghost use Rattle.plain_window.specs.Plain.{even_below, packet_seen};
 
 use crate::parts::{PlainJob, PlainPacket};
-use point_grids::{AtPoint, PixelGrid, PointSet};
+use point_grids::{AtPoint, PixelGrid, PointSet, number_in};
+use xp_base::{Coding, Rect};
 
 /// Whether some job in hand relieves the point.
 pub fn jobs_relieve(jobs: &[PlainJob], x: u32, y: u32) -> bool
@@ -15,10 +18,9 @@ pub fn jobs_relieve(jobs: &[PlainJob], x: u32, y: u32) -> bool
     jobs.iter().any(|job| job.relief.has(x, y))
 }
 
-/// The two sizes of a resize, and whether it keeps what they share at the client.
+/// The two sizes of a resize.
 #[derive(Clone, Copy, Debug)]
 pub struct Sizes {
-    pub keeps: bool,
     pub wide_before: u32,
     pub high_before: u32,
     pub wide: u32,
@@ -27,11 +29,9 @@ pub struct Sizes {
 
 /// Whether the point keeps its number at the client.
 pub fn survives(sizes: Sizes, x: u32, y: u32) -> bool
-    ensures { result ≡ (plain_rules sizes.keeps).survives sizes.wide_before sizes.high_before sizes.wide sizes.high x y }
+    ensures { result ≡ survives sizes.wide_before sizes.high_before sizes.wide sizes.high x y }
 {
-    sizes.keeps
-        && (x < sizes.wide_before && y < sizes.high_before)
-        && (x < sizes.wide && y < sizes.high)
+    (x < sizes.wide_before && y < sizes.high_before) && (x < sizes.wide && y < sizes.high)
 }
 
 /// The points of a set, and those that a job in hand relieves.
@@ -65,9 +65,9 @@ impl AtPoint<bool> for OwedAnew<'_> {
     ghost use Rattle.std.specs.Prelude.{◌||◌, not};
     ghost use Rattle.delivery_model.specs.Grids.{has};
     ghost use Rattle.delivery_model.specs.Events.{jobs_relieve};
-    ghost use Rattle.plain_window.specs.Plain.{plain_rules};
+    ghost use Rattle.xp_base.specs.Points.{survives};
 
-    ghost value = { λ t x y. not ((plain_rules t.sizes.keeps).survives t.sizes.wide_before t.sizes.high_before t.sizes.wide t.sizes.high x y) || (has t.set.now x y || jobs_relieve t.jobs.now x y) };
+    ghost value = { λ t x y. not (survives t.sizes.wide_before t.sizes.high_before t.sizes.wide t.sizes.high x y) || (has t.set.now x y || jobs_relieve t.jobs.now x y) };
 
     fn at(&self, x: u32, y: u32) -> bool {
         !survives(self.sizes, x, y) || (self.set.has(x, y) || jobs_relieve(self.jobs, x, y))
@@ -84,9 +84,9 @@ pub struct Surviving<'a> {
 impl AtPoint<bool> for Surviving<'_> {
     ghost use Rattle.std.specs.Prelude.{◌&&◌};
     ghost use Rattle.delivery_model.specs.Grids.{has};
-    ghost use Rattle.plain_window.specs.Plain.{plain_rules};
+    ghost use Rattle.xp_base.specs.Points.{survives};
 
-    ghost value = { λ t x y. has t.set.now x y && (plain_rules t.sizes.keeps).survives t.sizes.wide_before t.sizes.high_before t.sizes.wide t.sizes.high x y };
+    ghost value = { λ t x y. has t.set.now x y && survives t.sizes.wide_before t.sizes.high_before t.sizes.wide t.sizes.high x y };
 
     fn at(&self, x: u32, y: u32) -> bool {
         self.set.has(x, y) && survives(self.sizes, x, y)
@@ -103,15 +103,52 @@ pub struct Kept<'a> {
 impl AtPoint<u32> for Kept<'_> {
     ghost use Rattle.std.specs.Prelude.{if◌then◌else◌};
     ghost use Rattle.delivery_model.specs.Grids.{number};
-    ghost use Rattle.plain_window.specs.Plain.{plain_rules};
+    ghost use Rattle.xp_base.specs.Points.{survives};
 
-    ghost value = { λ t x y. if (plain_rules t.sizes.keeps).survives t.sizes.wide_before t.sizes.high_before t.sizes.wide t.sizes.high x y then number t.grid.now x y else 0 };
+    ghost value = { λ t x y. if survives t.sizes.wide_before t.sizes.high_before t.sizes.wide t.sizes.high x y then number t.grid.now x y else 0 };
 
     fn at(&self, x: u32, y: u32) -> u32 {
         if survives(self.sizes, x, y) {
             self.grid.number(x, y)
         } else {
             0
+        }
+    }
+}
+
+/// The number that a draw of this coding shows for a number.
+pub fn shown(coding: Coding, number: u32) -> u32
+    ensures { result ≡ shown even_below coding number }
+{
+    match coding {
+        Coding::Exact => number,
+        Coding::Lossy => number / 2 * 2,
+    }
+}
+
+/// A client's numbers, with those that a draw shows in its rectangle.
+#[derive(Clone, Copy)]
+pub struct WithDraw<'a> {
+    pub grid: &'a PixelGrid,
+    pub rect: Rect,
+    pub coding: Coding,
+    pub pixels: &'a [u32],
+}
+
+impl AtPoint<u32> for WithDraw<'_> {
+    ghost use Rattle.std.specs.Prelude.{if◌then◌else◌};
+    ghost use Rattle.xp_base.specs.Points.{is_in};
+    ghost use Rattle.delivery_model.specs.Grids.{number, number_in};
+    ghost use Rattle.delivery_model.specs.Client.{shown};
+    ghost use Rattle.plain_window.specs.Plain.{even_below};
+
+    ghost value = { λ t x y. if is_in t.rect x y then shown even_below t.coding (number_in t.rect t.pixels.now x y) else number t.grid.now x y };
+
+    fn at(&self, x: u32, y: u32) -> u32 {
+        if self.rect.contains(x, y) {
+            shown(self.coding, number_in(self.rect, self.pixels, x, y))
+        } else {
+            self.grid.number(x, y)
         }
     }
 }

@@ -38,8 +38,8 @@ enum Step {
     Unmap,
     Recall,
     Refresh,
-    /// The new size, and whether the client keeps what both sizes share.
-    Resize(Sides, bool),
+    /// The new size.
+    Resize(Sides),
     Close,
 }
 
@@ -128,13 +128,13 @@ fn file(alloc: Global, window: &mut PlainWindow, step: Step) -> Result<(), Fail>
 fn make(alloc: Global, window: &mut PlainWindow, step: Step) -> Result<(), Fail> {
     match step {
         Paint(sides, numbers) => window.paint(alloc, rect(sides)?, &numbers, 500)?,
-        Write(left, taken) => window.write(alloc, true, left, taken)?,
+        Write(left, taken) => window.write(alloc, left, taken)?,
         Acknowledge(number, negative) => window.acknowledge(alloc, number, negative, 500)?,
         Map => window.map(),
         Unmap => window.unmap(alloc, 500)?,
         Recall => window.recall(alloc, 500)?,
         Refresh => window.refresh(alloc, 500)?,
-        Resize(sides, keeps) => window.resize(alloc, keeps, rect(sides)?, 500)?,
+        Resize(sides) => window.resize(alloc, rect(sides)?, 500)?,
         Capture(..) | CaptureTwo(..) | CaptureAt(..) => capture(alloc, window, step)?,
         File(..) => file(alloc, window, step)?,
         Close => {}
@@ -247,7 +247,7 @@ fn a_paint_while_encoding(rt: HostRuntime) -> Result<(), Fail> {
 fn a_resize_while_encoding(rt: HostRuntime) -> Result<(), Fail> {
     let run = [
         (Capture([0, 0, 4, 4], Exact, 1, Jobs(1)), 16),
-        (Resize([0, 0, 2, 2], false), 4),
+        (Resize([0, 0, 2, 2]), 4),
         (File(1, [0, 0, 4, 4], Exact, [0; 6], Late), 4),
     ];
     play(rt.alloc(), Mapped, [0, 0, 4, 4], &run)
@@ -319,7 +319,7 @@ fn a_window_that_grows(rt: HostRuntime) -> Result<(), Fail> {
         (Capture([0, 0, 4, 1], Exact, 1, Jobs(1)), 4),
         (File(1, [0, 0, 4, 1], Exact, [WHITE; 6], Filed), 4),
         (Write(79, 79), 0),
-        (Resize([0, 0, 6, 1], true), 2),
+        (Resize([0, 0, 6, 1]), 2),
     ];
     play(rt.alloc(), Mapped, [0, 0, 4, 1], &run)
 }
@@ -331,8 +331,8 @@ fn a_window_that_shrinks_and_grows(rt: HostRuntime) -> Result<(), Fail> {
         (Paint([0, 0, 4, 1], [BLUE; 6]), 4),
         (Capture([0, 0, 4, 1], Exact, 2, Jobs(1)), 4),
         (File(2, [0, 0, 4, 1], Exact, [BLUE; 6], Filed), 4),
-        (Resize([0, 0, 2, 1], true), 2),
-        (Resize([0, 0, 4, 1], true), 4),
+        (Resize([0, 0, 2, 1]), 2),
+        (Resize([0, 0, 4, 1]), 4),
         (Write(92, 92), 2),
     ];
     play(rt.alloc(), Shown, [0, 0, 4, 1], &run)

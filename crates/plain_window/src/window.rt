@@ -1,7 +1,6 @@
 // One window of one client, played plainly.
-ghost use Rattle.std.specs.Prelude.{◌≡◌, ◌≤◌, ◌^◌, true, IfOk, OnOk, OnErr, count_by};
+ghost use Rattle.std.specs.Prelude.{ℕ, ◌≡◌, ◌≤◌, ◌^◌, true, IfOk, OnOk, OnErr, count_by};
 ghost use Rattle.xp_base.specs.Points.{whole};
-ghost use Rattle.delivery_model.specs.Window.{Rules};
 ghost use Rattle.delivery_model.specs.Events.{put_pending, damaged, painted, given_back, unmapped, started, step, Close};
 ghost use Rattle.delivery_model.specs.Owed.{owed_count};
 
@@ -182,9 +181,9 @@ impl PlainWindow {
         Ok(())
     }
 
-    /// The window is closed: it is gone, with its jobs and all that was owed, in every version of resize.
+    /// The window is closed: it is gone, with its jobs and all that was owed.
     pub fn close(window: &mut Option<PlainWindow>)
-        ensures { (rules : Rules) → window.new ≡ step rules window.old Close }
+        ensures { (lossy_shows : ℕ → ℕ) → window.new ≡ step lossy_shows window.old Close }
     {
         *window = None;
     }

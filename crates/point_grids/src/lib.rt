@@ -11,6 +11,6 @@ pub use at_point::{AtPoint, each_point};
 pub use pixel_grid::PixelGrid;
 pub use point_set::PointSet;
 pub use selections::{
-    Cut, Drawn, Everywhere, InRect, OneNumber, Painted, Resized, WithLossy, WithRect, WithoutRect,
+    Cut, Everywhere, InRect, OneNumber, Painted, Resized, WithLossy, WithRect, WithoutRect,
     number_in,
 };

@@ -195,27 +195,3 @@ impl AtPoint<u32> for Cut<'_> {
         self.desk.number(self.rect.x + x, self.rect.y + y)
     }
 }
-
-/// A window's numbers, with those of a draw in its rectangle.
-#[derive(Clone, Copy)]
-pub struct Drawn<'a> {
-    pub grid: &'a PixelGrid,
-    pub rect: Rect,
-    pub shown: &'a [u32],
-}
-
-impl AtPoint<u32> for Drawn<'_> {
-    ghost use Rattle.std.specs.Prelude.{if◌then◌else◌};
-    ghost use Rattle.xp_base.specs.Points.{is_in};
-    ghost use Rattle.delivery_model.specs.Grids.{number, number_in};
-
-    ghost value = { λ t x y. if is_in t.rect x y then number_in t.rect t.shown.now x y else number t.grid.now x y };
-
-    fn at(&self, x: u32, y: u32) -> u32 {
-        if self.rect.contains(x, y) {
-            number_in(self.rect, self.shown, x, y)
-        } else {
-            self.grid.number(x, y)
-        }
-    }
-}

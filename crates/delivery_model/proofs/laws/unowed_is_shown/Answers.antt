@@ -6,4 +6,4 @@ use Rattle.delivery_model.proofs.Steadies.{shown_unless_owed}
 use Rattle.delivery_model.proofs.laws.unowed_is_shown.Goals as goal
 
 pub returns : goal.returns
-returns c rules lawful events are w is = shown_unless_owed rules w (subst (λ (o : Option Window). KeptWhereThere rules o) is (kept_run rules lawful None events are tt))
+returns c lossy_shows events are w is = shown_unless_owed w (subst (λ (o : Option Window). KeptWhereThere o) is (kept_run lossy_shows None events are tt))

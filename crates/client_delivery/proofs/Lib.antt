@@ -1,0 +1,16 @@
+pub mod Layouts
+pub mod Queues
+pub mod Alike
+pub mod Parts
+pub mod Saying
+pub mod Placing
+pub mod Opening
+pub mod Relieving
+pub mod Closing
+pub mod Grids
+pub mod Painting
+pub mod Resizing
+pub mod Capturing
+pub mod Filing
+pub mod Writing
+pub mod Attaching

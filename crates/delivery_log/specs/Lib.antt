@@ -1,0 +1,4 @@
+pub mod Log
+pub mod Stale
+pub mod Traces
+pub mod Agreement
