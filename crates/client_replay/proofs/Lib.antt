@@ -1,0 +1,5 @@
+pub mod Missing
+pub mod Clips
+pub mod Draws
+pub mod ReplayLemmas
+pub mod Going
