@@ -100,7 +100,7 @@ module _ (x y : ℕ) (log more : List Entry) (quiet : list_any (is_origin x y) m
   hands_stay (j ∷ js) uncaptured =
       let first : list_any (is_capture j.number) more ≡ false = All-head (λ (k : ℕ). list_any (is_capture k) more ≡ false) j.number (hand_numbers js) uncaptured in
       let same : list_any (is_capture j.number) (since_origin x y (log ++ more)) ≡ list_any (is_capture j.number) (since_origin x y log) =
-          ap (λ es. list_any (is_capture j.number) es) (since_origin-append x y log more quiet) ∙ any_entry-append (is_capture j.number) (since_origin x y log) more ∙ grind (arith, nat_tests) in
+      ap (λ es. list_any (is_capture j.number) es) (since_origin-append x y log more quiet) ∙ any_entry-append (is_capture j.number) (since_origin x y log) more ∙ grind (arith, nat_tests) in
       rw same (ap (λ hs. hand_at x y log j ∷ hs) (hands_stay js (All-tail (λ (k : ℕ). list_any (is_capture k) more ≡ false) j.number (hand_numbers js) uncaptured)))
 
 -- at the point's origin
@@ -148,9 +148,10 @@ only_from c (Fresh ∷ log) all = only_from c log all
 only_from c (Kept w h ∷ log) all = only_from c log all
 only_from c (Damaged r ∷ log) all = only_from c log all
 only_from c (JobCaptured k r coding ∷ log) all =
-    let first = All-head (λ (d : Recorded). nat_eq d.number c.number ≡ true → d ≡ c) (record { number = k; rect = r; coding = coding }) (captured_jobs log) all in
-    ((λ is. (ap (λ (d : Recorded). d.rect) (first is), ap (λ (d : Recorded). d.coding) (first is))),
-    only_from c log (All-tail (λ (d : Recorded). nat_eq d.number c.number ≡ true → d ≡ c) (record { number = k; rect = r; coding = coding }) (captured_jobs log) all))
+    let first = All-head (λ (d : Recorded). nat_eq d.number c.number ≡ true → d ≡ c) (record { number = k; rect = r; coding = coding }) (captured_jobs log) all in (
+      (λ is. (ap (λ (d : Recorded). d.rect) (first is), ap (λ (d : Recorded). d.coding) (first is))),
+      only_from c log (All-tail (λ (d : Recorded). nat_eq d.number c.number ≡ true → d ≡ c) (record { number = k; rect = r; coding = coding }) (captured_jobs log) all),
+    )
 only_from c (DrawQueued k s ∷ log) all = only_from c log all
 only_from c (DrawWritten s ∷ log) all = only_from c log all
 
