@@ -19,6 +19,3 @@ pub use read::read_value;
 pub use reading::{Read, Why};
 pub use value::{Items, Key, Pair, Pairs, Value};
 pub use writer::write_value;
-
-#[cfg(test)]
-mod tests;

@@ -10,9 +10,9 @@ use Rattle.std.proofs.Math.Seq.{take-append-add}
 use Rattle.window_model.specs.Desktop.{Window, find_window, has_window, fresh_window, opened, filled_window, filled_on}
 use Rattle.xp_base.specs.Points.{Rectangle}
 use Rattle.window_model.proofs.Desktops.{changed_finds_lem}
-use Rattle.paint_script.specs.declared.paint.Paint.{Paint}
-use Rattle.paint_script.specs.declared.paint.Paint.TheVariants.{Open, Fill}
-use Rattle.paint_script.specs.Painting.{painted, rectangle}
+use Rattle.first_script.specs.declared.paint.Paint.{Paint}
+use Rattle.first_script.specs.declared.paint.Paint.TheVariants.{Open, Fill}
+use Rattle.first_script.specs.Painting.{painted, rectangle}
 use Rattle.client_connection.specs.declared.geometry.Geometry.{Geometry}
 use Rattle.client_connection.specs.declared.packet.Packet.{Packet}
 use Rattle.client_connection.specs.declared.source.Source.{Source}

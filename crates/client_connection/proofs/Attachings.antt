@@ -21,7 +21,7 @@ use Rattle.client_connection.specs.declared.source.Source.{Source}
 use Rattle.client_connection.specs.declared.geometry.Geometry.{Geometry}
 use Rattle.client_connection.specs.Wire.{client_limit, geometry_of, announces, new_window, server_hello}
 use Rattle.client_connection.specs.Clients.{ClientSeen, announced, attached, mapped_source, fresh_source, structure_packet, IsTaken}
-use Rattle.client_connection.specs.Delivery.{rules, waiting_on, find_source, delivery}
+use Rattle.client_connection.specs.Delivery.{waiting_on, find_source, delivery}
 use Rattle.client_connection.specs.Told.{Carries, CarryAll, after_some, effects, layout, front_bytes, AreSources, IsDelivered, IsTold}
 use Rattle.client_connection.proofs.Deliveries.{delivery_started}
 use Rattle.client_connection.proofs.Sources.{some_same, find_source-map, numbers-map, source_where, none_of, find_source-push}
@@ -85,13 +85,13 @@ delivered_opened desk sources packets windows messages g is missing carried d = 
 
     kept : (k : ℕ) (w : Window) (s : Source) → (eqb k g.wid ≡ true) ⊎ (eqb k g.wid ≡ false) → cond (eqb k g.wid) (Some (fresh_window g.wid g.x g.y g.w g.h)) (find_window desk k) ≡ Some w
         → cond (eqb k g.wid) (Some (fresh_source g)) (find_source sources k) ≡ Some s
-        → IsKept rules (delivery w (find_window windows k) (waiting_on k (packets ++ structure_packet (new_window g) ∷ []) (messages ++ announces g ∷ [])) s)
+        → IsKept (delivery w (find_window windows k) (waiting_on k (packets ++ structure_packet (new_window g) ∷ []) (messages ++ announces g ∷ [])) s)
     kept k w s (inl same) here source =
         let gone = d.absent k (ap (has_window desk) (eqb-true k g.wid same) ∙ missing) in
         let w_is : fresh_window g.wid g.x g.y g.w g.h ≡ w = some_same _ w (sym (cond-true _ _ _ same) ∙ here) in
         let s_is : fresh_source g ≡ s = some_same _ s (sym (cond-true _ _ _ same) ∙ source) in
-        subst (λ (v : Window). IsKept rules (delivery v (find_window windows k) (waiting_on k (packets ++ structure_packet (new_window g) ∷ []) (messages ++ announces g ∷ [])) s)) w_is
-        (subst (λ (u : Source). IsKept rules (delivery (fresh_window g.wid g.x g.y g.w g.h) (find_window windows k) (waiting_on k (packets ++ structure_packet (new_window g) ∷ []) (messages ++ announces g ∷ [])) u)) s_is
+        subst (λ (v : Window). IsKept (delivery v (find_window windows k) (waiting_on k (packets ++ structure_packet (new_window g) ∷ []) (messages ++ announces g ∷ [])) s)) w_is
+        (subst (λ (u : Source). IsKept (delivery (fresh_window g.wid g.x g.y g.w g.h) (find_window windows k) (waiting_on k (packets ++ structure_packet (new_window g) ∷ []) (messages ++ announces g ∷ [])) u)) s_is
         (rw (waiting k, gone.0, gone.1, same) (delivery_started (fresh_window g.wid g.x g.y g.w g.h) (fresh_source g) refl)))
     kept k w s (inr other) here source =
         rw (waiting k, other, append-nil) (d.kept k w s (sym (cond-false _ _ _ other) ∙ here) (sym (cond-false _ _ _ other) ∙ source))
@@ -306,15 +306,15 @@ delivered_mapped desk sources packets windows messages wid d = record {
   absent = d.absent;
 }
   where
-    marked : (client : Option Window) (waiting : List Waiting) (w : Window) (t : Source) (b : Bool) → IsKept rules (delivery w client waiting t) → IsKept rules (delivery w client waiting (cond b (record t { mapped = true }) t))
+    marked : (client : Option Window) (waiting : List Waiting) (w : Window) (t : Source) (b : Bool) → IsKept (delivery w client waiting t) → IsKept (delivery w client waiting (cond b (record t { mapped = true }) t))
     marked client waiting w t true kept = record { sized = kept.sized; jobs = kept.jobs; packets = kept.packets; pending = kept.pending; lossy = kept.lossy; points = kept.points }
     marked client waiting w t false kept = kept
 
     kept : (k : ℕ) (w : Window) (s : Source) (q : Option Source) → find_source sources k ≡ q → find_window desk k ≡ Some w → option_map (mapped_source wid) q ≡ Some s
-        → IsKept rules (delivery w (find_window windows k) (waiting_on k packets messages) s)
+        → IsKept (delivery w (find_window windows k) (waiting_on k packets messages) s)
     kept k w s None source here s_is = absurd (cc s_is)
     kept k w s (Some t) source here s_is =
-        subst (λ (u : Source). IsKept rules (delivery w (find_window windows k) (waiting_on k packets messages) u)) (some_same _ s s_is)
+        subst (λ (u : Source). IsKept (delivery w (find_window windows k) (waiting_on k packets messages) u)) (some_same _ s s_is)
         (marked (find_window windows k) (waiting_on k packets messages) w t (eqb t.wid wid) (d.kept k w t here source))
 
     same : (s : Source) (b : Bool) → ((cond b (record s { mapped = true }) s).wid ≡ s.wid) × ((cond b (record s { mapped = true }) s).pending ≡ s.pending)

@@ -12,18 +12,16 @@ use Rattle.window_model.specs.Drawing.{place_within}
 use Rattle.window_model.proofs.Points.{place_below, is_place_in-at, place_parts}
 use Rattle.window_model.proofs.Drawings.{get_or-filled, get_or-placed, get_or-blank}
 use Rattle.delivery_model.specs.Grids.{points, has, Grid, grid, number, number_in, shown_at}
-use Rattle.delivery_model.specs.Window.{Packet as Waiting, NewWindow, Draws, Draw as Drawn, IsRules}
-use Rattle.delivery_model.specs.Client.{applied, size_of}
+use Rattle.delivery_model.specs.Window.{Packet as Waiting, NewWindow, Draws, Draw as Drawn}
+use Rattle.delivery_model.specs.Client.{shown, applied, size_of}
 use Rattle.delivery_model.specs.Events.{started}
-use Rattle.delivery_model.specs.Point.{Drawing, job_mark, draw_at, packets_at, PointKept}
+use Rattle.delivery_model.specs.Point.{Drawing, DrawsThere, job_mark, draw_at, packets_at, PointKept}
 use Rattle.delivery_model.specs.Kept.{DrawFits, PacketFits, IsKept}
 use Rattle.delivery_model.proofs.Grids.{has-points_within, has-inside, number-grid}
 use Rattle.delivery_model.proofs.MarkSteps.{AllGood}
 use Rattle.delivery_model.proofs.PointSteps.{kept_damaged, kept_captured, kept_queued}
 use Rattle.delivery_model.proofs.Lists.{sizes_after-append, packets_at-append}
 use Rattle.delivery_model.proofs.WindowSteps.{keeps_started, keeps_written}
-use Rattle.delivery_model.proofs.Runs.{fresh_lawful}
-use Rattle.rgb_encoders.specs.Colour.{expansion, lossy_number}
 use Rattle.rgb_encoders.specs.Decoded.{decoded}
 use Rattle.rgb_encoders.specs.PixelBytes.{coded_bytes}
 use Rattle.packet_kinds.specs.declared.to_client.ToClient.{ToClient}
@@ -33,7 +31,7 @@ use Rattle.client_connection.specs.PointSets.{PointSet, IsPointSet, has as has_p
 use Rattle.client_connection.specs.declared.packet.Draw.{Draw}
 use Rattle.client_connection.specs.declared.source.Source.{Source}
 use Rattle.client_connection.specs.Told.{IsDrawOf, IsOfFirstPath}
-use Rattle.client_connection.specs.Delivery.{rules, grid_of, points_of, waits_as, delivery}
+use Rattle.client_connection.specs.Delivery.{lossy_shows, grid_of, points_of, waits_as, delivery}
 use Rattle.client_connection.proofs.Alike.{IsAlike, kept_alike}
 use Rattle.client_connection.proofs.Marked.{has_marked, has_all}
 
@@ -47,14 +45,14 @@ unfolding number
 number_as window x y = refl
 
 -- a window that was just announced
-pub delivery_started : (window : Window) (s : Source) → s.pending ≡ whole_set window.w window.h true → IsKept rules (delivery window None (NewWindow window.w window.h ∷ []) s)
-delivery_started window s all = kept_alike rules (started (grid_of window) 0) _ alike (keeps_started rules (grid_of window) 0)
+pub delivery_started : (window : Window) (s : Source) → s.pending ≡ whole_set window.w window.h true → IsKept (delivery window None (NewWindow window.w window.h ∷ []) s)
+delivery_started window s all = kept_alike (started (grid_of window) 0) _ alike (keeps_started (grid_of window) 0)
   where
     marked : (x y : ℕ) → is_within window.w window.h x y ≡ true → has (points_of s.pending) x y ≡ has (points window.w window.h (λ x y. true)) x y
     marked x y within = has_as s.pending x y ∙ ap (λ p. has_point p x y) all ∙ has_all window.w window.h true x y ∙ grind (arith, nat_tests, within)
         ∙ sym (has-points_within window.w window.h (λ x y. true) x y within)
 
-    alike : IsAlike rules (started (grid_of window) 0) (delivery window None (NewWindow window.w window.h ∷ []) s)
+    alike : IsAlike (started (grid_of window) 0) (delivery window None (NewWindow window.w window.h ∷ []) s)
     alike = record {
       wide = refl;
       high = refl;
@@ -72,14 +70,14 @@ with_sizes r p = (refl, refl)
 
 -- a rectangle of it was filled, and is pending
 pub delivery_filled : (window : Window) (client : Option Window) (waiting : List Waiting) (s : Source) (r : Rectangle) (colour : ℕ) → length window.pixels ≡ window.w * window.h → IsPointSet s.pending
-    → IsKept rules (delivery window client waiting s) → IsKept rules (delivery (filled_window r colour window) client waiting (record s { pending = with_rectangle r s.pending }))
+    → IsKept (delivery window client waiting s) → IsKept (delivery (filled_window r colour window) client waiting (record s { pending = with_rectangle r s.pending }))
 delivery_filled window client waiting s r colour sized set kept = record {
   sized = kept.sized;
   jobs = All-nil _;
   packets = kept.packets;
   pending = record { wide = (with_sizes r s.pending).0 ∙ wide; high = (with_sizes r s.pending).1 ∙ high };
   lossy = kept.lossy;
-  points = λ x y within. kept_damaged rules (number (grid_of window) x y) _ _ _ _ (has (points_of s.pending) x y) _ _ (which x y within (cases_Bool (is_in r x y))) (kept.points x y within);
+  points = λ x y within. kept_damaged (number (grid_of window) x y) _ _ _ _ (has (points_of s.pending) x y) _ _ (which x y within (cases_Bool (is_in r x y))) (kept.points x y within);
 }
   where
     now : ℕ → ℕ → Bool
@@ -119,20 +117,22 @@ whole_number : (w h : ℕ) (numbers : List ℕ) (x y : ℕ) → number_in (whole
 unfolding number_in
 whole_number w h numbers x y = let left : x - 0 ≡ x = omega arith in let top : y - 0 ≡ y = omega arith in rw (left, top) refl
 
+or_false : (b : Bool) → (b || false) ≡ b
+or_false true = refl
+or_false false = refl
+
 -- the exact draw of a whole window
 abbrev pub whole_draw : Window → Source → Drawn
 whole_draw window s = record {
   sequence = s.next_sequence;
-  rect = whole window.w window.h;
-  coding = Exact;
-  shown = decoded Exact window.w window.h (window.w * 4) (coded_bytes Exact window.pixels);
+  capture = record { rect = whole window.w window.h; coding = Exact; pixels = decoded Exact window.w window.h (window.w * 4) (coded_bytes Exact window.pixels) };
   relief = points_of s.pending;
 }
 
 -- the window was captured whole, and its draw waits
 pub delivery_captured : (window : Window) (client : Option Window) (waiting : List Waiting) (s s' : Source) → decoded Exact window.w window.h (window.w * 4) (coded_bytes Exact window.pixels) ≡ window.pixels
     → s'.pending ≡ whole_set window.w window.h false
-    → IsKept rules (delivery window client waiting s) → IsKept rules (delivery window client (waiting ++ Draws (whole_draw window s) ∷ []) s')
+    → IsKept (delivery window client waiting s) → IsKept (delivery window client (waiting ++ Draws (whole_draw window s) ∷ []) s')
 delivery_captured window client waiting s s' shows none kept = record {
   sized = rw sizes_after-append kept.sized;
   jobs = All-nil _;
@@ -140,10 +140,12 @@ delivery_captured window client waiting s s' shows none kept = record {
   pending = record { wide = ap (λ p. p.w) none; high = ap (λ p. p.h) none };
   lossy = kept.lossy;
   points = λ x y within. rw (packets_at-append, kept.sized, within, gone x y, drawn x y within, not_lossy x y within)
-      (kept_queued rules (number (grid_of window) x y) (shown_at (option_map grid_of client) x y) _ (job x y) (job x y) [] false false (record { covers = refl; coding = refl; number = λ there. refl }) (grind (arith, nat_tests)) (λ there. refl)
-      (kept_captured rules _ _ _ [] (job x y ∷ []) (has (points_of s.pending) x y) false (good x y) (λ is. rw is refl)
-      (subst (λ b. PointKept rules (record { number = number (grid_of window) x y; shows = shown_at (option_map grid_of client) x y; waiting = packets_at rules (size_of (option_map grid_of client)) waiting x y; jobs = []; pending = has (points_of s.pending) x y; lossy = b }))
-      (not_lossy x y within) (kept.points x y within))));
+      (subst (λ b. PointKept (record { number = number (grid_of window) x y; shows = shown_at (option_map grid_of client) x y; waiting = packets_at (size_of (option_map grid_of client)) waiting x y ++ DrawsThere true (record (job x y) { relieves = b }) ∷ []; jobs = []; pending = false; lossy = false }))
+      (or_false (has (points_of s.pending) x y))
+      (kept_queued (number (grid_of window) x y) (shown_at (option_map grid_of client) x y) _ (job x y) [] false false (λ there. refl)
+      (kept_captured _ _ _ [] (job x y ∷ []) (has (points_of s.pending) x y) false (good x y) (λ is. rw is refl)
+      (subst (λ b. PointKept (record { number = number (grid_of window) x y; shows = shown_at (option_map grid_of client) x y; waiting = packets_at (size_of (option_map grid_of client)) waiting x y; jobs = []; pending = has (points_of s.pending) x y; lossy = b }))
+      (not_lossy x y within) (kept.points x y within)))));
 }
   where
     fits : DrawFits window.w window.h (whole_draw window s)
@@ -175,7 +177,7 @@ LooksLike now was = (size_of now ≡ size_of was) × ((x y : ℕ) → shown_at n
 
 -- the client's window looks the same
 looks_alike : (window : Window) (client client' : Option Grid) (waiting : List Waiting) (s : Source) → LooksLike client' client
-    → IsKept rules (record (delivery window None waiting s) { client = client }) → IsKept rules (record (delivery window None waiting s) { client = client' })
+    → IsKept (record (delivery window None waiting s) { client = client }) → IsKept (record (delivery window None waiting s) { client = client' })
 looks_alike window client client' waiting s looks kept = record {
   sized = rw looks.0 kept.sized;
   jobs = All-nil _;
@@ -207,9 +209,9 @@ unfolding number_in
 number_in_as r numbers x y = refl
 
 -- a draw changes what the client's window shows in its rectangle
-drawn_looks : (window : Window) (d : Drawn) → length window.pixels ≡ window.w * window.h
-    → LooksLike (Some (grid_of (drawn_window d.rect d.shown window))) (applied rules (Some (grid_of window)) (Draws d))
-drawn_looks window d sized = (
+drawn_looks : (window : Window) (d : Drawn) → d.capture.coding ≡ Exact → length window.pixels ≡ window.w * window.h
+    → LooksLike (Some (grid_of (drawn_window d.capture.rect d.capture.pixels window))) (applied lossy_shows (Some (grid_of window)) (Draws d))
+drawn_looks window d exact sized = (
   refl,
   λ x y. elim (cases_Bool (is_within window.w window.h x y)) [
     | inl within ↦ ap (λ n. cond (is_within window.w window.h x y) (Some n) None) (shows x y within)
@@ -217,51 +219,55 @@ drawn_looks window d sized = (
   ],
 )
   where
-    after : ℕ → ℕ → ℕ
-    after x y = cond (is_in d.rect x y) (number_in d.rect d.shown x y) (number (grid_of window) x y)
+    r : Rectangle
+    r = d.capture.rect
 
-    shows : (x y : ℕ) → is_within window.w window.h x y ≡ true → number (grid_of (drawn_window d.rect d.shown window)) x y ≡ number (grid window.w window.h after) x y
+    drawn : ℕ → ℕ → ℕ
+    drawn x y = number_in r d.capture.pixels x y
+
+    after : ℕ → ℕ → ℕ
+    after x y = cond (is_in r x y) (shown lossy_shows d.capture.coding (drawn x y)) (number (grid_of window) x y)
+
+    shows : (x y : ℕ) → is_within window.w window.h x y ≡ true → number (grid_of (drawn_window r d.capture.pixels window)) x y ≡ number (grid window.w window.h after) x y
     shows x y within =
         let k = place_of window.w x y in
         let parts = place_parts window.w window.h x y within in
-        let there : get_or d.shown (place_within window.w d.rect k) 0 ≡ number_in d.rect d.shown x y =
-        ap (λ n. get_or d.shown (place_of d.rect.w (n - d.rect.x) (k / window.w - d.rect.y)) 0) parts.0 ∙ ap (λ n. get_or d.shown (place_of d.rect.w (x - d.rect.x) (n - d.rect.y)) 0) parts.1
-        ∙ sym (number_in_as d.rect d.shown x y) in
-        number_as (drawn_window d.rect d.shown window) x y
-        ∙ get_or-placed window.w d.rect d.shown window.pixels k (subst (λ n. k < n) (sym sized) (place_below window.w window.h x y within))
-        ∙ ap (λ b. cond b (get_or d.shown (place_within window.w d.rect k) 0) (get_or window.pixels k 0)) (is_place_in-at window.w window.h d.rect x y within)
-        ∙ ap (λ n. cond (is_in d.rect x y) n (get_or window.pixels k 0)) there
-        ∙ ap (λ n. cond (is_in d.rect x y) (number_in d.rect d.shown x y) n) (sym (number_as window x y))
+        let there : get_or d.capture.pixels (place_within window.w r k) 0 ≡ drawn x y =
+        ap (λ n. get_or d.capture.pixels (place_of r.w (n - r.x) (k / window.w - r.y)) 0) parts.0 ∙ ap (λ n. get_or d.capture.pixels (place_of r.w (x - r.x) (n - r.y)) 0) parts.1
+        ∙ sym (number_in_as r d.capture.pixels x y) in
+        number_as (drawn_window r d.capture.pixels window) x y
+        ∙ get_or-placed window.w r d.capture.pixels window.pixels k (subst (λ n. k < n) (sym sized) (place_below window.w window.h x y within))
+        ∙ ap (λ b. cond b (get_or d.capture.pixels (place_within window.w r k) 0) (get_or window.pixels k 0)) (is_place_in-at window.w window.h r x y within)
+        ∙ ap (λ n. cond (is_in r x y) n (get_or window.pixels k 0)) there
+        ∙ ap (λ n. cond (is_in r x y) (drawn x y) n) (sym (number_as window x y))
+        ∙ ap (λ c. cond (is_in r x y) (shown lossy_shows c (drawn x y)) (number (grid_of window) x y)) (sym exact)
         ∙ sym (number-grid window.w window.h after x y within)
 
 abbrev Kept : Window → Option Grid → List Waiting → Source → Type 0
-Kept window client waiting s = IsKept rules (record (delivery window None waiting s) { client = client })
-
-lawful : IsRules rules
-lawful = fresh_lawful (λ n. expansion (lossy_number n))
+Kept window client waiting s = IsKept (record (delivery window None waiting s) { client = client })
 
 -- the window was announced, or another one was
 written_announced : (k wid : ℕ) (x y : ℤ) (w h : ℕ) (window : Window) (client : Option Window) (waiting : List Waiting) (s : Source) → (eqb k wid ≡ true) ⊎ (eqb k wid ≡ false)
     → Kept window (option_map grid_of client) (cond (eqb k wid) (NewWindow w h ∷ []) [] ++ waiting) s → Kept window (option_map grid_of (effect_on k client (T.NewWindow wid x y w h))) waiting s
-written_announced k wid x y w h window (Some c) waiting s (inl same) kept = keeps_written rules lawful true _ (rw same at kept)
+written_announced k wid x y w h window (Some c) waiting s (inl same) kept = keeps_written lossy_shows true _ (rw same at kept)
 written_announced k wid x y w h window (Some c) waiting s (inr other) kept = rw other at kept
 written_announced k wid x y w h window None waiting s (inl same) kept =
-    rw same (looks_alike window (Some (grid w h (λ x y. 0))) _ waiting s (fresh_looks wid x y w h) (keeps_written rules lawful true _ (rw same at kept)))
+    rw same (looks_alike window (Some (grid w h (λ x y. 0))) _ waiting s (fresh_looks wid x y w h) (keeps_written lossy_shows true _ (rw same at kept)))
 written_announced k wid x y w h window None waiting s (inr other) kept = rw other (rw other at kept)
 
 -- a draw of the window was written, or one of another
-written_drawn : (k wid : ℕ) (d : Drawn) (window : Window) (client : Option Window) (waiting : List Waiting) (s : Source) → IsSized client → (eqb k wid ≡ true) ⊎ (eqb k wid ≡ false)
+written_drawn : (k wid : ℕ) (d : Drawn) (window : Window) (client : Option Window) (waiting : List Waiting) (s : Source) → d.capture.coding ≡ Exact → IsSized client → (eqb k wid ≡ true) ⊎ (eqb k wid ≡ false)
     → Kept window (option_map grid_of client) (cond (eqb k wid) (Draws d ∷ []) [] ++ waiting) s
-    → Kept window (option_map grid_of (option_map (λ c. cond (eqb k wid) (drawn_window d.rect d.shown c) c) client)) waiting s
-written_drawn k wid d window None waiting s sized (inl same) kept = keeps_written rules lawful true _ (rw same at kept)
-written_drawn k wid d window None waiting s sized (inr other) kept = rw other at kept
-written_drawn k wid d window (Some c) waiting s sized (inl same) kept =
-    rw same (looks_alike window _ _ waiting s (drawn_looks c d sized) (keeps_written rules lawful true _ (rw same at kept)))
-written_drawn k wid d window (Some c) waiting s sized (inr other) kept = rw other (rw other at kept)
+    → Kept window (option_map grid_of (option_map (λ c. cond (eqb k wid) (drawn_window d.capture.rect d.capture.pixels c) c) client)) waiting s
+written_drawn k wid d window None waiting s exact sized (inl same) kept = keeps_written lossy_shows true _ (rw same at kept)
+written_drawn k wid d window None waiting s exact sized (inr other) kept = rw other at kept
+written_drawn k wid d window (Some c) waiting s exact sized (inl same) kept =
+    rw same (looks_alike window _ _ waiting s (drawn_looks c d exact sized) (keeps_written lossy_shows true _ (rw same at kept)))
+written_drawn k wid d window (Some c) waiting s exact sized (inr other) kept = rw other (rw other at kept)
 
 -- the first packet was written, and the client's window is what it makes of it
 pub delivery_written : (k : ℕ) (window : Window) (client : Option Window) (draw : Option Draw) (m : ToClient) (waiting : List Waiting) (s : Source) → IsSized client → IsDrawOf draw m → IsOfFirstPath m
-    → IsKept rules (delivery window client (waits_as k draw m ++ waiting) s) → IsKept rules (delivery window (effect_on k client m) waiting s)
+    → IsKept (delivery window client (waits_as k draw m ++ waiting) s) → IsKept (delivery window (effect_on k client m) waiting s)
 delivery_written k window None draw (T.Hello caps) waiting s sized is first kept = kept
 delivery_written k window (Some c) draw (T.Hello caps) waiting s sized is first kept = kept
 delivery_written k window client draw (T.NewWindow wid x y w h) waiting s sized is first kept = written_announced k wid x y w h window client waiting s (cases_Bool (eqb k wid)) kept
@@ -270,8 +276,8 @@ delivery_written k window client draw (T.WindowResized wid w h) waiting s sized 
 delivery_written k window client draw (T.WindowMoveResize wid x y w h) waiting s sized is first kept = absurd first
 delivery_written k window client draw (T.RaiseWindow wid) waiting s sized is first kept = absurd first
 delivery_written k window client None (T.Draw wid x y w h coding bytes sequence stride) waiting s sized is first kept = absurd is
-delivery_written k window None (Some d) (T.Draw wid x y w h coding bytes sequence stride) waiting s sized is first kept = written_drawn k wid _ window None waiting s sized (cases_Bool (eqb k wid)) kept
-delivery_written k window (Some c) (Some d) (T.Draw wid x y w h coding bytes sequence stride) waiting s sized is first kept = written_drawn k wid _ window (Some c) waiting s sized (cases_Bool (eqb k wid)) kept
+delivery_written k window None (Some d) (T.Draw wid x y w h coding bytes sequence stride) waiting s sized is first kept = written_drawn k wid _ window None waiting s first sized (cases_Bool (eqb k wid)) kept
+delivery_written k window (Some c) (Some d) (T.Draw wid x y w h coding bytes sequence stride) waiting s sized is first kept = written_drawn k wid _ window (Some c) waiting s first sized (cases_Bool (eqb k wid)) kept
 delivery_written k window client draw (T.PingEcho t) waiting s sized is first kept = absurd first
 delivery_written k window client draw (T.Disconnect reason) waiting s sized is first kept = absurd first
 delivery_written k window client draw T.Other waiting s sized is first kept = absurd first

@@ -8,8 +8,8 @@ use Rattle.std.proofs.lemmas.Bool.{cases_lt}
 use Rattle.std.proofs.lemmas.Int.{ints}
 use Rattle.std.proofs.lemmas.List.{length-append, append_cancel_left, append_assoc, append-nil}
 use Rattle.window_model.specs.Desktop.{Window, IsPlace}
-use Rattle.paint_script.specs.declared.paint.Paint.{Paint}
-use Rattle.paint_script.specs.declared.paint.Paint.TheVariants.{Open, Fill}
+use Rattle.first_script.specs.declared.paint.Paint.{Paint}
+use Rattle.first_script.specs.declared.paint.Paint.TheVariants.{Open, Fill}
 use Rattle.client_connection.specs.declared.geometry.Geometry.{Geometry}
 use Rattle.client_connection.specs.declared.packet.Packet.{Packet}
 use Rattle.client_connection.specs.declared.answers.Captured.{Captured}

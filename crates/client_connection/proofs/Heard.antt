@@ -4,7 +4,7 @@ use Rattle.std.proofs.lemmas.List.{length-append, append_cancel_left}
 use Rattle.std.specs.List.{concat}
 use Rattle.std.specs.Prelude.{replicate, Result, Ok, Err, OnErr}
 use Rattle.window_model.specs.Desktop.{Window}
-use Rattle.paint_script.specs.declared.paint.Paint.{Paint}
+use Rattle.first_script.specs.declared.paint.Paint.{Paint}
 use Rattle.client_connection.specs.declared.geometry.Geometry.{Geometry}
 use Rattle.client_connection.specs.Clients.{ClientSeen, attached}
 use Rattle.client_connection.specs.Wire.{exact_hello, map_window}

@@ -6,7 +6,7 @@ use Rattle.std.proofs.lemmas.List.{append-nil}
 use Rattle.xp_base.specs.Told.{told_append}
 use Rattle.link_bay.specs.Connections.{ConnectionRecord}
 use Rattle.window_model.specs.Desktop.{Window, IsWindow, IsDesktop, find_window}
-use Rattle.paint_script.specs.declared.paint.Paint.{Paint}
+use Rattle.first_script.specs.declared.paint.Paint.{Paint}
 use Rattle.client_connection.specs.declared.source.Source.{Source}
 use Rattle.client_connection.specs.declared.geometry.Geometry.{Geometry}
 use Rattle.client_connection.specs.declared.answers.Sent.{Sent}
@@ -18,10 +18,10 @@ use Rattle.client_connection.specs.Hearing.{Hears, HearsAs, HearsMaps, HearsFirs
 use Rattle.client_connection.specs.Sending.{Writes, offered}
 use Rattle.client_connection.specs.Capturing.{CapturesWindow}
 use Rattle.client_connection.specs.Told.{IsTold, IsToldFor}
-use Rattle.paint_script.specs.Painting.{painted, rectangle}
+use Rattle.first_script.specs.Painting.{painted, rectangle}
 use Rattle.client_connection.proofs.Announced.{wrote_some}
-use Rattle.paint_script.specs.declared.paint.Paint.TheVariants.{Open, Fill}
-use Rattle.paint_script.specs.Validity.{IsPaintOn}
+use Rattle.first_script.specs.declared.paint.Paint.TheVariants.{Open, Fill}
+use Rattle.first_script.specs.Validity.{IsPaintOn}
 use Rattle.client_connection.proofs.Tellings.{told_captured, told_filled}
 use Rattle.client_connection.proofs.Attachings.{told_attached, told_mapped, told_read, told_opened}
 

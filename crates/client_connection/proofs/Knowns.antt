@@ -5,8 +5,8 @@ use Rattle.std.proofs.lemmas.List.{append-nil}
 use Rattle.xp_base.specs.Told.{told_append, told_length}
 use Rattle.link_bay.specs.Connections.{ConnectionRecord, fresh_connection}
 use Rattle.window_model.specs.Desktop.{Window}
-use Rattle.paint_script.specs.declared.paint.Paint.{Paint}
-use Rattle.paint_script.specs.Painting.{painted}
+use Rattle.first_script.specs.declared.paint.Paint.{Paint}
+use Rattle.first_script.specs.Painting.{painted}
 use Rattle.client_connection.specs.declared.answers.Sent.{Sent}
 use Rattle.client_connection.specs.declared.answers.Sent.TheVariants as S
 use Rattle.client_connection.specs.declared.answers.Captured.{Captured}
@@ -16,7 +16,7 @@ use Rattle.client_connection.specs.Hearing.{Hears}
 use Rattle.client_connection.specs.Sending.{Writes, offered}
 use Rattle.client_connection.specs.Capturing.{CapturesWindow}
 use Rattle.client_connection.specs.Told.{IsToldFor}
-use Rattle.paint_script.specs.Validity.{ArePaints}
+use Rattle.first_script.specs.Validity.{ArePaints}
 use Rattle.client_connection.specs.declared.source.Source.{Source}
 use Rattle.client_connection.specs.Delivery.{find_source}
 use Rattle.client_connection.specs.Mapped.{MapsIn}

@@ -15,8 +15,8 @@ use Rattle.hello_caps.specs.Replies.{server_hello_value}
 use Rattle.hello_caps.proofs.Spellings.{exact_hello as hello_spelled}
 use Rattle.packet_frames.specs.Written.{frame_bytes}
 use Rattle.packet_frames.proofs.Writing.{packet_bytes_are}
-use Rattle.paint_script.specs.declared.paint.Paint.{Paint}
-use Rattle.paint_script.specs.declared.paint.Paint.TheVariants.{Open}
+use Rattle.first_script.specs.declared.paint.Paint.{Paint}
+use Rattle.first_script.specs.declared.paint.Paint.TheVariants.{Open}
 use Rattle.packet_kinds.specs.declared.to_client.ToClient.{ToClient}
 use Rattle.packet_kinds.specs.ToClients.{to_value, to_chunk}
 use Rattle.packet_kinds.specs.Picture.{Picture}

@@ -16,7 +16,7 @@ use Rattle.delivery_model.specs.Grids.{number, shown_at}
 use Rattle.delivery_model.specs.Window.{Packet as Waiting, NewWindow, WindowResized}
 use Rattle.delivery_model.specs.Owed.{packets_relieve, is_owed}
 use Rattle.delivery_model.proofs.Grids.{has-points}
-use Rattle.delivery_model.proofs.Steadies.{shown_unless_owed, is_steady, nothing_in_front_anew}
+use Rattle.delivery_model.proofs.Steadies.{shown_unless_owed, is_steady, nothing_in_front}
 use Rattle.packet_kinds.specs.declared.to_client.ToClient.{ToClient}
 use Rattle.packet_kinds.specs.declared.to_client.ToClient.TheVariants as T
 use Rattle.packet_kinds.specs.Picture.{picture}
@@ -30,7 +30,7 @@ use Rattle.client_connection.specs.PointSets.{has as has_point}
 use Rattle.client_connection.specs.Wire.{client_limit}
 use Rattle.client_connection.specs.Clients.{ClientSeen, front_rest, IsTaken}
 use Rattle.client_connection.specs.Owed.{draw_relieves, source_owes, client_owes}
-use Rattle.client_connection.specs.Delivery.{rules, grid_of, waits_as, waiting_on, find_source, delivery}
+use Rattle.client_connection.specs.Delivery.{grid_of, waits_as, waiting_on, find_source, delivery}
 use Rattle.client_connection.specs.Told.{CarryAll, IsDrawOf, effects, front_bytes, IsTold}
 use Rattle.client_connection.specs.Shown.{shows, number_on, Differs, OwesWhatDiffers, unsent, WillShowTheDesktop, WindowsAreSteady}
 use Rattle.client_connection.proofs.Deliveries.{has_as, number_as}
@@ -154,7 +154,7 @@ unowed_shown desk c sent sized told greeted k x y n is none =
     let source = source_found (find_source c.sources k) refl (source_where desk c.sources k d.sourced ∙ ap is_some at.1) in
     let free = unowed c k x y at.0 (find_window told.windows k) told.messages source.0 none told.carried source.1 in
     let kept = d.kept k at.0 source.0 at.1 source.1 in
-    let shown = shown_unless_owed rules (delivery at.0 (find_window told.windows k) (waiting_on k c.packets told.messages) source.0) kept x y at.2 free in
+    let shown = shown_unless_owed (delivery at.0 (find_window told.windows k) (waiting_on k c.packets told.messages) source.0) kept x y at.2 free in
     ap (λ p. number_on p.windows k x y) (shows_told desk c sent told)
     ∙ shown_number told.windows k x y n (find_window told.windows k) refl told.sized (shown ∙ ap (λ m. Some m) at.3)
   where
@@ -197,7 +197,7 @@ will_show desk c sent told greeted =
 pub windows_steady : (desk : List Window) (c : ClientSeen) (sent : List ℕ) (told : IsTold desk c sent) → c.greeted ≡ true → WindowsAreSteady desk c sent told
 windows_steady desk c sent told greeted = λ wid window s here source.
     let kept = (told.delivered greeted).kept wid window s here source in
-    ((is_steady rules _ kept).current, nothing_in_front_anew (λ n. expansion (lossy_number n)) _ kept)
+    ((is_steady _ kept).current, nothing_in_front _ kept)
 
 -- the windows of a desktop have their pixels
 pub desk_sized : (desk : List Window) → IsDesktop desk → All (λ (w : Window). length w.pixels ≡ w.w * w.h) desk

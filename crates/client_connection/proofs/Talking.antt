@@ -27,10 +27,10 @@ use Rattle.packet_kinds.specs.Talk.{Said, Talk, talk_of, talk}
 use Rattle.packet_kinds.proofs.FromSizes.{said_may_be_written, said_is_within}
 use Rattle.packet_kinds.proofs.FromWritten.{is_client_message}
 use Rattle.packet_kinds.proofs.Talks.{first_talk, continues, message_is_heard, part_is_unheard}
-use Rattle.paint_script.specs.declared.paint.Paint.{Paint}
-use Rattle.paint_script.specs.declared.paint.Paint.TheVariants.{Open, Fill}
-use Rattle.paint_script.specs.Painting.{desk_at}
-use Rattle.paint_script.specs.Validity.{IsOpenOn, ArePaints}
+use Rattle.first_script.specs.declared.paint.Paint.{Paint}
+use Rattle.first_script.specs.declared.paint.Paint.TheVariants.{Open, Fill}
+use Rattle.first_script.specs.Painting.{desk_at}
+use Rattle.first_script.specs.Validity.{IsOpenOn, ArePaints}
 use Rattle.client_connection.specs.declared.geometry.Geometry.{Geometry}
 use Rattle.client_connection.specs.declared.source.Source.{Source}
 use Rattle.client_connection.specs.Wire.{packet, exact_hello, geometry_text, map_window}

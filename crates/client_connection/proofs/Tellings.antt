@@ -25,7 +25,7 @@ use Rattle.client_connection.specs.Wire.{client_limit, geometry_of, draws_whole}
 use Rattle.client_connection.specs.Clients.{ClientSeen, fresh_client, front_size, front_rest, captured, damaged, damaged_source, window_draw, IsTaken}
 use Rattle.xp_base.specs.declared.coding.Coding.TheVariants.{Exact}
 use Rattle.rgb_encoders.specs.PixelBytes.{coded_bytes}
-use Rattle.client_connection.specs.Delivery.{rules, waits_as, waiting_on, find_source, delivery}
+use Rattle.client_connection.specs.Delivery.{waits_as, waiting_on, find_source, delivery}
 use Rattle.client_connection.specs.Told.{CarryAll, IsOfFirstPath, layout, front_bytes, IsDelivered, IsTold}
 use Rattle.client_connection.proofs.Deliveries.{delivery_filled, delivery_captured, delivery_written, IsSized}
 use Rattle.client_connection.proofs.Sources.{some_same, found_one, wid_at, numbers-set, find_source-map, numbers-map, find_source-set, find_source-at}
@@ -266,7 +266,7 @@ delivered_captured desk sources packets windows messages window place s is found
     source_is k = find_source-set sources window.wid place s (captured_source window s) k at there (wid_at sources window.wid place s at there)
 
     kept : (k : ℕ) (w : Window) (t : Source) → (eqb k window.wid ≡ true) ⊎ (eqb k window.wid ≡ false) → find_window desk k ≡ Some w → find_source (set sources place (captured_source window s)) k ≡ Some t
-        → IsKept rules (delivery w (find_window windows k) (waiting_on k (packets ++ window_draw window s ∷ []) (messages ++ draws_whole window s.next_sequence ∷ [])) t)
+        → IsKept (delivery w (find_window windows k) (waiting_on k (packets ++ window_draw window s ∷ []) (messages ++ draws_whole window s.next_sequence ∷ [])) t)
     kept k w t (inr other) here source =
         let old : find_source sources k ≡ Some t = sym (cond-false _ _ _ other) ∙ sym (source_is k) ∙ source in
         rw (waiting k, elsewhere k other, append-nil) (d.kept k w t here old)
@@ -275,12 +275,12 @@ delivered_captured desk sources packets windows messages window place s is found
         let w_is : window ≡ w = some_same window w (sym found ∙ ap (find_window desk) (sym number) ∙ here) in
         let t_is : captured_source window s ≡ t = some_same _ t (sym (cond-true _ _ _ same) ∙ sym (source_is k) ∙ source) in
         let old : find_source sources k ≡ Some s = ap (find_source sources) number ∙ find_source-at sources window.wid place s at there in
-        let before : IsKept rules (delivery window (find_window windows k) (waiting_on k packets messages) s) = d.kept k window s (ap (find_window desk) number ∙ found) old in
+        let before : IsKept (delivery window (find_window windows k) (waiting_on k packets messages) s) = d.kept k window s (ap (find_window desk) number ∙ found) old in
         let after = delivery_captured window (find_window windows k) (waiting_on k packets messages) s (captured_source window s) (draw_shows window is) refl before in
         let packets' = packets ++ window_draw window s ∷ [] in
         let messages' = messages ++ draws_whole window s.next_sequence ∷ [] in
-        subst (λ (v : Window). IsKept rules (delivery v (find_window windows k) (waiting_on k packets' messages') t)) w_is
-        (subst (λ (u : Source). IsKept rules (delivery window (find_window windows k) (waiting_on k packets' messages') u)) t_is (rw (waiting k, same) after))
+        subst (λ (v : Window). IsKept (delivery v (find_window windows k) (waiting_on k packets' messages') t)) w_is
+        (subst (λ (u : Source). IsKept (delivery window (find_window windows k) (waiting_on k packets' messages') u)) t_is (rw (waiting k, same) after))
 
 pub told_captured : (desk : List Window) (c : ClientSeen) (sent : List ℕ) (window : Window) (place : ℕ) (s : Source) → c.greeted ≡ true → IsWindow window → s.next_sequence < 2 ^ 63
     → find_window desk window.wid ≡ Some window → position (λ (t : Source). eqb t.wid window.wid) c.sources ≡ Some place → slice_get c.sources place ≡ Some s
@@ -293,7 +293,7 @@ told_captured desk c sent window place s greeted is low found at there told = re
   show = told.show;
   sized = told.sized;
   carried = carry_push c.packets told.messages (window_draw window s) (draws_whole window s.next_sequence) told.carried
-      (record { message = draws_message window s.next_sequence is low; draw = (refl, refl, refl, refl); built = tt });
+      (record { message = draws_message window s.next_sequence is low; draw = (refl, refl, refl, refl); built = refl });
   part = taken_push c.packets (window_draw window s) c.taken (draw_some window s.next_sequence) told.part;
   empty = told.empty;
   unattached = λ none. absurd (cc (none, greeted));
@@ -342,7 +342,7 @@ told_filled desk c sent wid r colour is told = record {
 
     kept : IsDelivered desk c.sources c.packets told.windows told.messages → (k : ℕ) (w : Window) (s : Source) (b : Bool) (o : Option Window) (q : Option Source) → eqb k wid ≡ b
         → find_window desk k ≡ o → find_source c.sources k ≡ q → cond b (option_map (filled_window r colour) o) o ≡ Some w → option_map (damaged_source wid r) q ≡ Some s
-        → IsKept rules (delivery w (find_window told.windows k) (waiting_on k c.packets told.messages) s)
+        → IsKept (delivery w (find_window told.windows k) (waiting_on k c.packets told.messages) s)
     kept d k w s true None q which here source w_is s_is = absurd (cc w_is)
     kept d k w s false None q which here source w_is s_is = absurd (cc w_is)
     kept d k w s b (Some v) None which here source w_is s_is = absurd (cc s_is)
@@ -350,12 +350,12 @@ told_filled desk c sent wid r colour is told = record {
         let window : IsWindow v = (found_one IsWindow (λ (u : Window). eqb u.wid k) desk v is.windows here).0 in
         let found = found_one (λ (u : Source). IsPointSet u.pending) (λ (u : Source). eqb u.wid k) c.sources t d.sets source in
         let after = delivery_filled v (find_window told.windows k) (waiting_on k c.packets told.messages) t r colour window.sized found.0 (d.kept k v t here source) in
-        subst (λ (u : Window). IsKept rules (delivery u (find_window told.windows k) (waiting_on k c.packets told.messages) s)) (some_same _ w w_is)
-        (subst (λ (u : Source). IsKept rules (delivery (filled_window r colour v) (find_window told.windows k) (waiting_on k c.packets told.messages) u)) (sym (damaged_as k t true found.1 which) ∙ some_same _ s s_is) after)
+        subst (λ (u : Window). IsKept (delivery u (find_window told.windows k) (waiting_on k c.packets told.messages) s)) (some_same _ w w_is)
+        (subst (λ (u : Source). IsKept (delivery (filled_window r colour v) (find_window told.windows k) (waiting_on k c.packets told.messages) u)) (sym (damaged_as k t true found.1 which) ∙ some_same _ s s_is) after)
     kept d k w s false (Some v) (Some t) which here source w_is s_is =
         let found = found_one (λ (u : Source). IsPointSet u.pending) (λ (u : Source). eqb u.wid k) c.sources t d.sets source in
-        subst (λ (u : Window). IsKept rules (delivery u (find_window told.windows k) (waiting_on k c.packets told.messages) s)) (some_same _ w w_is)
-        (subst (λ (u : Source). IsKept rules (delivery v (find_window told.windows k) (waiting_on k c.packets told.messages) u)) (sym (damaged_as k t false found.1 which) ∙ some_same _ s s_is) (d.kept k v t here source))
+        subst (λ (u : Window). IsKept (delivery u (find_window told.windows k) (waiting_on k c.packets told.messages) s)) (some_same _ w w_is)
+        (subst (λ (u : Source). IsKept (delivery v (find_window told.windows k) (waiting_on k c.packets told.messages) u)) (sym (damaged_as k t false found.1 which) ∙ some_same _ s s_is) (d.kept k v t here source))
 
     delivered_filled : IsDelivered desk c.sources c.packets told.windows told.messages → IsDelivered (filled_on desk wid r colour) (map (damaged_source wid r) c.sources) c.packets told.windows told.messages
     delivered_filled d = record {

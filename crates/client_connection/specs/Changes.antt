@@ -4,9 +4,9 @@ use Rattle.std.specs.List.{list_any}
 use Rattle.xp_base.specs.Points.{Rectangle, is_in, is_within}
 use Rattle.link_bay.specs.Connections.{ConnectionRecord}
 use Rattle.window_model.specs.Desktop.{Window, IsWindow, IsDesktop, find_window}
-use Rattle.paint_script.specs.declared.paint.Paint.{Paint}
-use Rattle.paint_script.specs.Painting.{painted}
-use Rattle.paint_script.specs.Validity.{IsPaintOn}
+use Rattle.first_script.specs.declared.paint.Paint.{Paint}
+use Rattle.first_script.specs.Painting.{painted}
+use Rattle.first_script.specs.Validity.{IsPaintOn}
 use Rattle.client_connection.specs.declared.answers.Sent.{Sent}
 use Rattle.client_connection.specs.declared.answers.Captured.{Captured}
 use Rattle.client_connection.specs.declared.packet.Packet.{Packet}

@@ -6,7 +6,7 @@ use Rattle.window_model.specs.Desktop.{Window}
 use Rattle.rgb_encoders.specs.Colour.{expansion, lossy_number}
 use Rattle.rgb_encoders.specs.Decoded.{decoded}
 use Rattle.delivery_model.specs.Grids.{Points, points, Grid}
-use Rattle.delivery_model.specs.Window.{Packet as Waiting, NewWindow, WindowResized, Draws, Window as Delivery, Rules, fresh_rules}
+use Rattle.delivery_model.specs.Window.{Packet as Waiting, NewWindow, WindowResized, Draws, Window as Delivery}
 use Rattle.packet_kinds.specs.declared.to_client.ToClient.{ToClient}
 use Rattle.packet_kinds.specs.declared.to_client.ToClient.TheVariants as T
 use Rattle.client_connection.specs.PointSets.{PointSet}
@@ -14,9 +14,9 @@ use Rattle.client_connection.specs.declared.packet.Packet.{Packet}
 use Rattle.client_connection.specs.declared.packet.Draw.{Draw}
 use Rattle.client_connection.specs.declared.source.Source.{Source}
 
--- a lossy draw shows the colour of the lossy number; a resize makes the client's window anew
-abbrev pub rules : Rules
-rules = fresh_rules (λ n. expansion (lossy_number n))
+-- a lossy draw shows the colour of the lossy number
+abbrev pub lossy_shows : ℕ → ℕ
+lossy_shows n = expansion (lossy_number n)
 
 abbrev pub grid_of : Window → Grid
 grid_of window = record { wide = window.w; high = window.h; numbers = window.pixels }
@@ -35,9 +35,7 @@ waits_as k draw (T.RaiseWindow wid) = []
 waits_as k None (T.Draw wid x y w h coding bytes sequence stride) = []
 waits_as k (Some d) (T.Draw wid x y w h coding bytes sequence stride) = if k == wid then Draws (record {
   sequence = d.sequence;
-  rect = record { x = x; y = y; w = w; h = h };
-  coding = coding;
-  shown = decoded coding w h stride bytes;
+  capture = record { rect = record { x = x; y = y; w = w; h = h }; coding = coding; pixels = decoded coding w h stride bytes };
   relief = points_of d.relief;
 }) ∷ [] else []
 waits_as k draw (T.PingEcho t) = []

@@ -3,7 +3,7 @@ use Rattle.std.specs.Prelude.{ℕ, ◌+◌, ◌<◌, ◌≤◌, ◌≡◌, Bool,
 use Rattle.std.specs.List.{concat}
 use Rattle.link_bay.specs.Connections.{ConnectionRecord}
 use Rattle.window_model.specs.Desktop.{Window, has_window}
-use Rattle.paint_script.specs.declared.paint.Paint.{Paint}
+use Rattle.first_script.specs.declared.paint.Paint.{Paint}
 use Rattle.client_connection.specs.declared.geometry.Geometry.{Geometry}
 use Rattle.client_connection.specs.declared.source.Source.{Source}
 use Rattle.client_connection.specs.Wire.{exact_hello, map_window}

@@ -3,8 +3,8 @@
 use Rattle.std.specs.Prelude.{ℕ, ◌+◌, ◌≤◌, ◌≡◌, ◌≢◌, ◌⊎◌, Bool, true, false, if◌then◌else◌, nat_lt, Option, Some, None, List, [], ◌∷◌, ◌++◌, replicate, map}
 use Rattle.std.specs.List.{concat}
 use Rattle.window_model.specs.Desktop.{Window}
-use Rattle.paint_script.specs.declared.paint.Paint.{Paint}
-use Rattle.paint_script.specs.declared.paint.Paint.TheVariants.{Open, Fill}
+use Rattle.first_script.specs.declared.paint.Paint.{Paint}
+use Rattle.first_script.specs.declared.paint.Paint.TheVariants.{Open, Fill}
 use Rattle.client_connection.specs.declared.geometry.Geometry.{Geometry}
 use Rattle.client_connection.specs.declared.source.Source.{Source}
 use Rattle.client_connection.specs.Clients.{ClientSeen, attached, mapped_source}

@@ -3,9 +3,9 @@ use Rattle.std.specs.Prelude.{ℕ, ◌≡◌, Bool, true, false, Some, List, ◌
 use Rattle.xp_base.specs.Told.{told_append}
 use Rattle.link_bay.specs.Connections.{ConnectionRecord, fresh_connection}
 use Rattle.window_model.specs.Desktop.{Window}
-use Rattle.paint_script.specs.declared.paint.Paint.{Paint}
-use Rattle.paint_script.specs.Painting.{painted}
-use Rattle.paint_script.specs.Validity.{ArePaints}
+use Rattle.first_script.specs.declared.paint.Paint.{Paint}
+use Rattle.first_script.specs.Painting.{painted}
+use Rattle.first_script.specs.Validity.{ArePaints}
 use Rattle.client_connection.specs.declared.answers.Captured.{Captured}
 use Rattle.client_connection.specs.declared.answers.Sent.{Sent}
 use Rattle.client_connection.specs.declared.source.Source.{Source}

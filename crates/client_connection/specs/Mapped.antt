@@ -3,8 +3,8 @@ use Rattle.std.specs.Prelude.{ℕ, pos, ◌<◌, ◌≤◌, ◌≡◌, ◌≢◌
 use Rattle.link_bay.specs.Connections.{ConnectionRecord}
 use Rattle.packet_kinds.specs.declared.from_client.FromClient.{FromClient}
 use Rattle.packet_kinds.specs.declared.from_client.FromClient.TheVariants as C
-use Rattle.paint_script.specs.declared.paint.Paint.{Paint}
-use Rattle.paint_script.specs.Validity.{ArePaints}
+use Rattle.first_script.specs.declared.paint.Paint.{Paint}
+use Rattle.first_script.specs.Validity.{ArePaints}
 use Rattle.packet_kinds.specs.Talk.{Said, Talk, talk}
 use Rattle.client_connection.specs.declared.geometry.Geometry.{Geometry}
 use Rattle.client_connection.specs.Given.{IsShownBy, IsBuilt}

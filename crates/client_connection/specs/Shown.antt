@@ -4,7 +4,7 @@ use Rattle.std.specs.List.{concat}
 use Rattle.std.specs.Option.{option_and_then}
 use Rattle.xp_base.specs.Grid.{number_at}
 use Rattle.window_model.specs.Desktop.{Window, find_window}
-use Rattle.delivery_model.specs.Invariant.{NewestAreCurrent, NothingInFrontAnew}
+use Rattle.delivery_model.specs.Invariant.{NewestAreCurrent, NothingInFront}
 use Rattle.packet_kinds.specs.Picture.{picture}
 use Rattle.packet_kinds.specs.Written.{Show}
 use Rattle.client_connection.specs.declared.packet.Packet.{Packet}
@@ -12,7 +12,7 @@ use Rattle.client_connection.specs.declared.source.Source.{Source}
 use Rattle.client_connection.specs.Wire.{client_limit}
 use Rattle.client_connection.specs.Clients.{ClientSeen, front_rest}
 use Rattle.client_connection.specs.Owed.{client_owes}
-use Rattle.client_connection.specs.Delivery.{rules, waiting_on, find_source, delivery}
+use Rattle.client_connection.specs.Delivery.{waiting_on, find_source, delivery}
 use Rattle.client_connection.specs.Told.{layout, IsTold}
 
 -- the windows that a client shows once these bytes were sent to it; a packet that was sent in part counts for nothing
@@ -44,5 +44,5 @@ WillShowTheDesktop desk c sent = (after : List Window) × Show client_limit (sen
 -- only in front of the window's announcement
 abbrev pub WindowsAreSteady : (desk : List Window) (c : ClientSeen) (sent : List ℕ) → IsTold desk c sent → Type 0
 WindowsAreSteady desk c sent told = (wid : ℕ) (window : Window) (s : Source) → find_window desk wid ≡ Some window → find_source c.sources wid ≡ Some s
-    → NewestAreCurrent rules (delivery window (find_window told.windows wid) (waiting_on wid c.packets told.messages) s)
-    × NothingInFrontAnew (delivery window (find_window told.windows wid) (waiting_on wid c.packets told.messages) s)
+    → NewestAreCurrent (delivery window (find_window told.windows wid) (waiting_on wid c.packets told.messages) s)
+    × NothingInFront (delivery window (find_window told.windows wid) (waiting_on wid c.packets told.messages) s)

@@ -1,6 +1,7 @@
 -- What a session keeps of a client and the bytes sent to it: each pixel in which the client's picture of these bytes
 -- differs from the desktop is owed.
 use Rattle.std.specs.Prelude.{ℕ, pos, ◌≡◌, ◌*◌, true, false, Option, Some, None, List, [], ◌∷◌, ◌++◌, length, map, take, All}
+use Rattle.xp_base.specs.declared.coding.Coding.TheVariants.{Exact}
 use Rattle.window_model.specs.Desktop.{Window, find_window, has_window}
 use Rattle.delivery_model.specs.Kept.{IsKept}
 use Rattle.packet_kinds.specs.declared.to_client.ToClient.{ToClient}
@@ -14,7 +15,7 @@ use Rattle.client_connection.specs.declared.geometry.Geometry.{Geometry}
 use Rattle.client_connection.specs.PointSets.{IsPointSet}
 use Rattle.client_connection.specs.Wire.{client_limit, geometry_of}
 use Rattle.client_connection.specs.Clients.{ClientSeen, IsTaken}
-use Rattle.client_connection.specs.Delivery.{rules, waiting_on, find_source, delivery}
+use Rattle.client_connection.specs.Delivery.{waiting_on, find_source, delivery}
 
 -- what is kept of a packet is what it draws, where its message is a draw, and nothing else
 abbrev pub IsDrawOf : Option Draw → ToClient → Type 0
@@ -32,7 +33,7 @@ IsOfFirstPath (T.LostWindow wid) = ⊥
 IsOfFirstPath (T.WindowResized wid w h) = ⊥
 IsOfFirstPath (T.WindowMoveResize wid x y w h) = ⊥
 IsOfFirstPath (T.RaiseWindow wid) = ⊥
-IsOfFirstPath (T.Draw wid x y w h coding bytes sequence stride) = Unit {0}
+IsOfFirstPath (T.Draw wid x y w h coding bytes sequence stride) = coding ≡ Exact
 IsOfFirstPath (T.PingEcho t) = ⊥
 IsOfFirstPath (T.Disconnect reason) = ⊥
 IsOfFirstPath T.Other = ⊥
@@ -85,7 +86,7 @@ pub record IsDelivered (desk : List Window) (sources : List Source) (packets : L
   pub sets : All (λ (s : Source). IsPointSet s.pending) sources
   -- each window of the desktop is kept in the form that gives "shown unless owed"
   pub kept : (k : ℕ) (window : Window) (s : Source) → find_window desk k ≡ Some window → find_source sources k ≡ Some s
-      → IsKept rules (delivery window (find_window windows k) (waiting_on k packets messages) s)
+      → IsKept (delivery window (find_window windows k) (waiting_on k packets messages) s)
   -- no packet is on a window that the desktop has not, and the client shows none
   pub absent : (k : ℕ) → has_window desk k ≡ false → (find_window windows k ≡ None) × (waiting_on k packets messages ≡ [])
 

@@ -17,7 +17,6 @@ mod packet;
 mod points;
 mod send;
 mod source;
-mod text;
 pub mod wire;
 
 pub use answers::{Broken, Captured, Sent};
@@ -33,7 +32,4 @@ pub use laws::{
 pub use packet::{Announcement, Draw, Packet};
 pub use points::Points;
 pub use source::Source;
-pub use text::Text;
-
-#[cfg(test)]
-mod tests;
+pub use xp_base::Text;

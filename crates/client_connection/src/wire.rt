@@ -3,9 +3,8 @@ ghost use Rattle.std.specs.Prelude.{◌≡◌, ◌≤◌, ◌<◌, ◌^◌, ◌+
 ghost use Rattle.client_connection.specs.Wire.{header, packet, geometry_text, map_window};
 
 use crate::geometry::Geometry;
-use crate::text::Text;
 use std::alloc::Global;
-use xp_base::NoMemory;
+use xp_base::{NoMemory, Text};
 
 /// The map of a window that an exact client sends, whole.
 pub fn map_window_packet(alloc: Global, geometry: &Geometry) -> Result<Vec<u8>, NoMemory>

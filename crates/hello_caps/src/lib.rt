@@ -13,6 +13,3 @@ pub use client::read_hello;
 pub use laws::{a_hello_by_form, capabilities_by_key, the_last_pair_counts, the_server_spells};
 pub use refusal::goodbye;
 pub use server::server_hello;
-
-#[cfg(test)]
-mod tests;

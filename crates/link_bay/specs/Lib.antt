@@ -7,3 +7,6 @@ pub mod Peers
 pub mod ExactPeer
 pub mod OneSteps
 pub mod OneKept
+pub mod Tapes
+pub mod TapeSteps
+pub mod Closes

@@ -67,12 +67,14 @@ pub trait Bay {
         ensures others { OthersStay (connection self.old) (connection self.new) c.0 }
         ensures provider { provider self.new ≡ provider self.old };
 
+    /// Takes bytes from the front of the piece, perhaps none. Every answer but `Took` takes nothing.
     fn write(&mut self, c: Conn, piece: &[u8]) -> Wrote
         requires known { c.0 < (provider self.old).count }
         ensures answer { WriteGives (connection self.old c.0) (connection self.new c.0) piece.now result }
         ensures others { OthersStay (connection self.old) (connection self.new) c.0 }
         ensures provider { provider self.new ≡ provider self.old };
 
+    /// Says that nothing more is read or written on it. What is known of it stays, and its number stays its own.
     fn close(&mut self, c: Conn)
         requires known { c.0 < (provider self.old).count }
         ensures connections { AllStay (connection self.old) (connection self.new) }

@@ -65,6 +65,17 @@ gives_again limit start rest fault place kind told e =
 same_left : (f g : Framing) (bytes : List ℕ) (given : List Packet) → g ≡ f → Follows bytes given f → Follows bytes given g
 same_left f g bytes given e h = subst (Follows bytes given) (sym e) h
 
+-- a packet that was given was the next of those left
+pub given_next : (old new : Framing) (place : ℕ) (v : Value) → Gives old (N.Packet place v) new → left_of old ≡ behind (record { place = place; value = v } ∷ []) (left_of new)
+given_next old new place v h =
+    let here : Packet = record { place = place; value = v } in
+    let size = h.0 in
+    ap (read_on old.limit (from_place old.start)) (sym (take-append-drop size old.rest))
+    ∙ read_on-append old.limit (from_place old.start) (take size old.rest) (drop size old.rest)
+    ∙ ap (λ s. read_on old.limit s (drop size old.rest)) h.2
+    ∙ read_on-behind old.limit (here ∷ []) (from_place new.start) (drop size old.rest)
+    ∙ ap (λ (f : Framing). behind (here ∷ []) (read_on f.limit (from_place new.start) f.rest)) (sym h.3)
+
 -- what an answer says of the rest it says of all bytes
 pub tells : (bytes : List ℕ) (given : List Packet) (old : Framing) (answer : Next) (new : Framing) → Gives old answer new → Follows bytes given old → Tells bytes given answer new
 tells bytes given old (N.Packet place v) new h follows =

@@ -7,7 +7,7 @@ pub mod Fronts
 pub mod Headers
 pub mod Layers
 pub mod Reading
-pub mod Samples
 pub mod Streams
 pub mod Taking
+pub mod Texts
 pub mod Writing

@@ -5,4 +5,5 @@ pub mod Framing
 pub mod Header
 pub mod Pieces
 pub mod Stream
+pub mod Texts
 pub mod Written

@@ -1,5 +1,5 @@
 // Packets of a stream that comes in pieces.
-ghost use Rattle.std.specs.Prelude.{◌≡◌, ℕ, List, [], ◌++◌, OnOk, OnErr, length, false};
+ghost use Rattle.std.specs.Prelude.{◌≡◌, ℕ, ◌+◌, List, [], ◌++◌, OnOk, OnErr, is_ok, if◌then◌else◌, length, vec_len, false};
 ghost use Rattle.packet_frames.specs.Following.{Framing, Follows, fed, Gives, Tells, KeepsFault, IsShortAt};
 ghost use Rattle.packet_frames.specs.Stream.{Packet};
 
@@ -65,7 +65,7 @@ impl Framer {
             self.buffer.drain(..self.taken);
             self.taken = 0;
         }
-        self.buffer.extend_from_slice(piece)?;
+        take_in(&mut self.buffer, self.wanted, piece)?;
         self.wanted = self.wanted.saturating_sub(piece.len());
         Ok(())
     }
@@ -114,4 +114,14 @@ impl Framer {
     {
         (self.buffer.len() - self.taken) as u64
     }
+}
+
+/// Adds a piece to the bytes, with room for those that their packet still wants, so that they need not grow again.
+fn take_in(buffer: &mut Vec<u8>, wanted: usize, piece: &[u8]) -> Result<(), NoMemory>
+    ensures items { buffer.new.items ≡ (if is_ok result then buffer.old.items ++ piece.now else buffer.old.items) }
+    ensures len { vec_len buffer.new ≡ (if is_ok result then vec_len buffer.old + length piece.now else vec_len buffer.old) }
+{
+    buffer.reserve(wanted.max(piece.len()))?;
+    buffer.extend_from_slice(piece)?;
+    Ok(())
 }

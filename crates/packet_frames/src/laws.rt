@@ -8,6 +8,7 @@ ghost use Rattle.bencode_values.specs.declared.value.Value.TheVariants as V;
 ghost use Rattle.bencode_values.specs.declared.value.Pair.{Pair};
 ghost use Rattle.packet_frames.specs.Framing.{is_empty_string, put_in, read_of};
 ghost use Rattle.packet_frames.specs.Stream.{Stream, read_on};
+ghost use Rattle.packet_frames.specs.Texts.{PacketsAreOfBytes};
 ghost use Rattle.packet_frames.specs.Written.{WrittenFollows, PartAddsNone};
 
 /// What a content reads as is what the bencode reader's contract says of it, and never want of memory.
@@ -46,4 +47,9 @@ pub fn a_written_packet_follows()
 /// A part of a written packet's bytes, short of them all, adds no packet to a clean stream and no fault.
 pub fn a_part_of_a_packet_adds_none()
     ensures { PartAddsNone }
+{}
+
+/// Where a stream is of bytes, so are the byte strings in the list of each of its packets.
+pub fn packets_are_of_bytes()
+    ensures { PacketsAreOfBytes }
 {}

@@ -10,6 +10,7 @@ mod framer;
 mod head;
 mod item;
 mod laws;
+mod left;
 mod main_packet;
 mod next;
 mod packet;
@@ -22,10 +23,9 @@ pub use framer::Framer;
 pub use laws::{
     a_chunk_is_put_in_by_form, a_content_reads_as_its_grammar_says, a_part_of_a_packet_adds_none,
     a_written_packet_follows, appending_reads_on, nothing_is_read_behind_a_fault,
+    packets_are_of_bytes,
 };
+pub use left::{a_packet_given_was_the_next, packets_before_stay};
 pub use next::Next;
 pub use pieces::{Held, read_pieces};
 pub use writer::write_packet;
-
-#[cfg(test)]
-mod tests;

@@ -16,10 +16,20 @@ pub fn write_packet(alloc: Global, value: &Value, chunk: Option<Chunk>) -> Resul
     ensures packets { IfOk result (λ bytes. IsThatPacket value.now chunk bytes.items) }
 {
     let content = write_value(alloc, value)?;
-    let mut bytes = Vec::new(alloc);
+    let mut bytes = Vec::with_capacity(alloc, 16 + content.len() + chunk_size(&chunk))?;
     push_chunk(&mut bytes, chunk)?;
     push_frame(&mut bytes, 0, content.as_slice())?;
     Ok(bytes)
+}
+
+/// How many bytes a chunk's content has, if there is one.
+fn chunk_size(chunk: &Option<Chunk>) -> usize
+    ensures { result < 2 ^ 32 }
+{
+    match chunk {
+        Some(chunk) => chunk.bytes.len().min(0xffff_ffff),
+        None => 0,
+    }
 }
 
 /// Adds a chunk, if there is one.

@@ -51,7 +51,7 @@ unfolding read_on
 nothing_shows limit = record { clean = record { fault = refl; rest = refl }; shown = nothing_shown limit }
 
 -- the packets of a clean stream are all shown
-all_shown : (limit : ℕ) (sent : List ℕ) (windows : List Window) → Show limit sent windows → shown None (packets_of limit sent).packets [] ≡ clear windows
+pub all_shown : (limit : ℕ) (sent : List ℕ) (windows : List Window) → Show limit sent windows → shown None (packets_of limit sent).packets [] ≡ clear windows
 unfolding picture
 all_shown limit sent windows h = ap (λ f. shown f (packets_of limit sent).packets []) (sym h.clean.fault) ∙ h.shown
 

@@ -8,9 +8,13 @@ mod Examples
 pub mod Answering
 pub mod FromSizes
 pub mod FromWritten
+pub mod Given
 pub mod Items
-pub mod Samples
+pub mod Pictured
+pub mod Replying
 pub mod Sizes
+pub mod SmallReplies
 pub mod TalkExamples
+pub mod DrawNames
 pub mod Talks
 pub mod ToWritten

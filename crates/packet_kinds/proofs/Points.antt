@@ -1,17 +1,14 @@
 -- What a packet makes of a window's points.
-use Rattle.std.proofs.Common.{length, leb, eqb, eq-eqb, ◌≡◌, ℕ, ◌-◌, ◌*◌, ◌/◌, ◌%◌, true, false, Some, get_or, cond, sym, ap, ◌∙◌, arith}
+use Rattle.std.proofs.Common.{length, leb, eqb, eq-eqb, ◌≡◌, ◌-◌, ◌*◌, true, Some, ◌∙◌, arith}
 use Rattle.std.proofs.lemmas.Bool.{and_parts, and_from, le-leb}
 use Rattle.std.proofs.lemmas.Bool.Decides.{nat_tests}
-use Rattle.std.proofs.lemmas.List.FromFn.{get_or-map-range_with_len}
 use Rattle.xp_base.specs.Points.{is_in, is_within}
-use Rattle.xp_base.specs.Grid.{number_at, place_of}
-use Rattle.window_model.proofs.Points.{number_at-inside, place_below, place_parts, Some-cond, cond_same, blank_shows_lem, placed_shows_lem}
+use Rattle.xp_base.specs.Grid.{number_at}
+use Rattle.window_model.proofs.Points.{cond_same, blank_shows_lem, placed_shows_lem, resized_shows_lem}
 use Rattle.rgb_encoders.specs.PixelBytes.{pixel_size}
 use Rattle.rgb_encoders.specs.Decoded.{decoded_at, decoded}
 use Rattle.rgb_encoders.proofs.Points.{length-decoded, number_at-decoded}
-use Rattle.packet_kinds.specs.Effects.{survives, resized_window}
 use Rattle.packet_kinds.specs.Laws.{DrawShows, DrawHoldsPixels, NewWindowShows, ResizeShows}
-use Rattle.packet_kinds.proofs.Desktops.{length-resized}
 
 pub draw_shows : DrawShows
 draw_shows window r coding stride bytes x y sized within =
@@ -31,18 +28,5 @@ draw_holds_pixels coding w h stride bytes =
 pub new_window_shows : NewWindowShows
 new_window_shows wid x y w h a b within = blank_shows_lem w h a b within
 
--- a point that survives was in the window
-survives_within : (w0 h0 w h x y : ℕ) → survives w0 h0 w h x y ≡ true → is_within w0 h0 x y ≡ true
-survives_within w0 h0 w h x y e = absurd (let f : false ≡ true = e in cc)
-
 pub resize_shows : ResizeShows
-resize_shows window w h x y sized within =
-    let kept : ℕ → ℕ → ℕ = λ a b. cond (survives window.w window.h w h a b) (get_or window.pixels (place_of window.w a b) 0) 0 in
-    let k = place_of w x y in
-    let parts = place_parts w h x y within in
-    number_at-inside w h (resized_window w h window).pixels x y (length-resized window w h) within
-    ∙ ap Some (get_or-map-range_with_len (λ k. kept (k % w) (k / w)) 0 (w * h) k k 0 (place_below w h x y within) (omega arith))
-    ∙ ap (λ a. Some (kept a (k / w))) parts.0 ∙ ap (λ b. Some (kept x b)) parts.1
-    ∙ Some-cond (survives window.w window.h w h x y) (get_or window.pixels (place_of window.w x y) 0) 0
-    ∙ cond_same (survives window.w window.h w h x y) (Some (get_or window.pixels (place_of window.w x y) 0)) (number_at window.w window.h window.pixels x y) (Some 0)
-    (λ stays. sym (number_at-inside window.w window.h window.pixels x y sized (survives_within window.w window.h w h x y stays)))
+resize_shows window w h x y sized within = resized_shows_lem window.w window.h w h window.pixels x y sized within

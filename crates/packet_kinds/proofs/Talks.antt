@@ -11,7 +11,7 @@ use Rattle.packet_frames.proofs.Writing.{written_follows, part_adds_none}
 use Rattle.packet_kinds.specs.declared.fault.TalkFault.TheVariants as F
 use Rattle.packet_kinds.specs.declared.from_client.FromClient.{FromClient}
 use Rattle.packet_kinds.specs.FromShapes.{from_client}
-use Rattle.packet_kinds.specs.Talk.{Said, TalkStop, Talk, Heard, stop_of, heard_or_shape, heard, talk_of, talk, said_or_shape, more_said, Continues, PacketIsHeard, FaultIsHeard, ShapeStays, MessageIsHeard, PartIsUnheard}
+use Rattle.packet_kinds.specs.Talk.{Said, TalkStop, Talk, Heard, stop_of, heard_or_shape, heard, talk_of, talk, said_or_shape, more_said, Continues, PacketIsHeard, LaterAreHeard, FaultIsHeard, ShapeStays, MessageIsHeard, PartIsUnheard}
 
 -- messages, and then more
 abbrev then_heard : Heard → Heard → Heard
@@ -53,6 +53,10 @@ packet_is_heard [] p none = refl
 packet_is_heard (x ∷ xs) p none =
     ap (λ (later : Heard). let t : Talk = record { first = Some x; said = later.said; fault = later.fault } in t) (heard-append None xs (p ∷ []) none)
     ∙ one_heard p (from_client p.value) x (heard None xs) none
+
+pub later_are_heard : LaterAreHeard
+later_are_heard fault [] more first none = absurd (first refl)
+later_are_heard fault (x ∷ xs) more first none = ap (λ (later : Heard). let t : Talk = record { first = Some x; said = later.said; fault = later.fault } in t) (heard-append fault xs more none)
 
 fault_behind : (f : Fault) (xs : List Packet) → (heard None xs).fault ≡ None → heard (Some f) xs ≡ record (heard None xs) { fault = stop_of (Some f) }
 fault_behind f xs none =
@@ -108,7 +112,7 @@ heard_on : (fault : Option Fault) (xs ys : List Packet) → (more : List Said) �
 heard_on fault [] ys = ((heard fault ys).said, refl)
 heard_on fault (x ∷ xs) ys = said_on x.place (from_client x.value) (heard None xs) (heard fault (xs ++ ys)) (heard_on fault xs ys)
 
-continues_packets : (fault : Option Fault) (xs ys : List Packet) → Continues (talk_of None xs) (talk_of fault (xs ++ ys))
+pub continues_packets : (fault : Option Fault) (xs ys : List Packet) → Continues (talk_of None xs) (talk_of fault (xs ++ ys))
 continues_packets fault [] ys = record { first = λ some. absurd (some refl); more = (talk_of fault ys).said; said = refl }
 continues_packets fault (x ∷ xs) ys = let on = heard_on fault xs ys in record { first = λ some. refl; more = on.0; said = on.1 }
 

@@ -1,50 +1,20 @@
 -- The window of one number, after each packet.
-use Rattle.std.proofs.Common.{◌≡◌, ◌≢◌, inl, inr, ℕ, Bool, true, false, Option, Some, None, ◌<◌, List, [], ◌∷◌, ◌++◌, length, get_or, cond, eqb, refl, sym, ap, subst, ◌∙◌, arith}
-use Rattle.std.specs.Prelude.{ℤ, not}
+use Rattle.std.proofs.Common.{◌≡◌, inl, inr, ℕ, Bool, true, false, Option, Some, None, List, [], ◌∷◌, ◌++◌, cond, eqb, refl, sym, ap, subst, ◌∙◌, arith}
+use Rattle.std.specs.Prelude.{ℤ}
 use Rattle.std.specs.Option.{option_map, is_some}
-use Rattle.std.proofs.lemmas.List.Folds.{find-append}
-use Rattle.std.proofs.lemmas.List.{length-map, get_or-map}
-use Rattle.std.proofs.lemmas.List.Kept.{AllPairs-filter}
-use Rattle.std.proofs.lemmas.List.Quantifiers.{all_pairs_push}
-use Rattle.std.proofs.lemmas.Bool.{cases_eq, cond_both}
+use Rattle.std.proofs.lemmas.Bool.{cases_eq}
 use Rattle.std.proofs.lemmas.Bool.Decides.{nat_tests}
+use Rattle.xp_base.specs.KeyedLaws.{KeyedKeeps}
+use Rattle.xp_base.proofs.KeyedLemmas.{keyed_keeps_lem}
 use Rattle.xp_base.specs.declared.coding.Coding.{Coding}
 use Rattle.bencode_values.specs.declared.value.Value.{Value}
-use Rattle.window_model.specs.Desktop.{Window, find_window, has_window, fresh_window, changed_window}
-use Rattle.window_model.proofs.Desktops.{changed_finds_lem, opened_finds_lem, apart_from_missing}
+use Rattle.window_model.specs.Desktop.{Window, find_window, has_window, fresh_window, opened, changed_window, moved_window, resized_window}
+use Rattle.window_model.proofs.Desktops.{changed_finds_lem, opened_finds_lem, removed_finds_lem, raised_finds_lem}
 use Rattle.rgb_encoders.specs.Decoded.{decoded}
 use Rattle.packet_kinds.specs.declared.to_client.ToClient.{ToClient}
 use Rattle.packet_kinds.specs.declared.to_client.ToClient.TheVariants as T
-use Rattle.packet_kinds.specs.Effects.{effect, effect_on, without_window, on_top, resized_window, moved_window, drawn_window, holds_pixels}
+use Rattle.packet_kinds.specs.Effects.{effect, effect_on, drawn_window, holds_pixels}
 use Rattle.packet_kinds.specs.Laws.{OneWindowChanges, AreDistinct, NumbersStayDistinct}
-
-pub find-without : (windows : List Window) (wid k : ℕ) → find_window (without_window windows wid) k ≡ cond (eqb k wid) None (find_window windows k)
-find-without [] wid k = grind (arith, nat_tests)
-find-without (window ∷ windows) wid k =
-    let rest = find-without windows wid k in
-    elim (cases_eq window.wid wid) [
-      | inl same ↦ elim (cases_eq window.wid k) [ inl here ↦ grind (arith, nat_tests, rest, same, here) | inr elsewhere ↦ grind (arith, nat_tests, rest, same, elsewhere) ]
-      | inr other ↦ elim (cases_eq window.wid k) [ inl here ↦ grind (arith, nat_tests, rest, other, here) | inr elsewhere ↦ grind (arith, nat_tests, rest, other, elsewhere) ]
-    ]
-
--- the window found by a number has it
-pub found_number : (windows : List Window) (wid : ℕ) (window : Window) → find_window windows wid ≡ Some window → window.wid ≡ wid
-found_number [] wid window e = absurd (grind (arith, nat_tests))
-found_number (first ∷ windows) wid window e = elim (cases_eq first.wid wid) [
-  | inl same ↦ grind (arith, nat_tests, same)
-  | inr other ↦ found_number windows wid window (grind (arith, nat_tests, other))
-]
-
-find_on_top : (windows : List Window) (wid k : ℕ) (o : Option Window) → find_window windows wid ≡ o
-    → find_window (on_top (without_window windows wid) o) k ≡ find_window windows k
-find_on_top windows wid k None e =
-    let rest = find-without windows wid k in
-    elim (cases_eq k wid) [ inl same ↦ rw same (grind (arith, nat_tests, e, find-without windows wid wid)) | inr other ↦ grind (arith, nat_tests, rest, other) ]
-find_on_top windows wid k (Some window) e =
-    let number = found_number windows wid window e in
-    let rest = find-without windows wid k in
-    let there = find-append (λ w. eqb w.wid k) (without_window windows wid) (window ∷ []) in
-    elim (cases_eq k wid) [ inl same ↦ grind (arith, nat_tests, e, rest, there, number, same) | inr other ↦ grind (arith, nat_tests, rest, there, number, other) ]
 
 pub same_after : {A : Type 0} (a b : A) → Some a ≡ Some b → a ≡ b
 same_after a b e = cc
@@ -59,7 +29,7 @@ absent_on k wid x y w h None missing = refl
 absent_on k wid x y w h (Some window) missing = elim (cases_eq k wid) [ inl same ↦ absurd (let e : true ≡ false = missing same in cc) | inr other ↦ grind (arith, nat_tests, other) ]
 
 find-new : (windows : List Window) (wid : ℕ) (x y : ℤ) (w h k : ℕ) (there : Bool) → has_window windows wid ≡ there
-    → find_window (cond there windows (windows ++ fresh_window wid x y w h ∷ [])) k ≡ effect_on k (find_window windows k) (T.NewWindow wid x y w h)
+    → find_window (cond there windows (opened windows wid x y w h)) k ≡ effect_on k (find_window windows k) (T.NewWindow wid x y w h)
 find-new windows wid x y w h k true e = present_on k wid x y w h (find_window windows k) (λ same. ap (has_window windows) same ∙ e)
 find-new windows wid x y w h k false e =
     opened_finds_lem windows wid x y w h k e ∙ absent_on k wid x y w h (find_window windows k) (λ same. ap (has_window windows) same ∙ e)
@@ -138,13 +108,13 @@ found a after k o e h = ap (λ windows. find_window windows k) (sym (same_after 
 pub one_window_changes : OneWindowChanges
 one_window_changes windows after (T.Hello caps) k e = found windows after k _ e (hello_on_none caps k (find_window windows k))
 one_window_changes windows after (T.NewWindow wid x y w h) k e = found _ after k _ e (find-new windows wid x y w h k (has_window windows wid) refl)
-one_window_changes windows after (T.LostWindow wid) k e = found _ after k _ e (find-without windows wid k ∙ lost_on k wid (find_window windows k))
+one_window_changes windows after (T.LostWindow wid) k e = found _ after k _ e (removed_finds_lem windows wid k ∙ lost_on k wid (find_window windows k))
 one_window_changes windows after (T.WindowResized wid w h) k e =
     found _ after k _ e (find-change windows wid k (resized_window w h) (λ _. refl) ∙ resized_on k wid w h (find_window windows k))
 one_window_changes windows after (T.WindowMoveResize wid x y w h) k e =
     found _ after k _ e (find-change windows wid k (moved_window x y) (λ _. refl) ∙ moved_on k wid x y w h (find_window windows k))
 one_window_changes windows after (T.RaiseWindow wid) k e =
-    found _ after k _ e (find_on_top windows wid k (find_window windows wid) refl ∙ raise_on_none wid k (find_window windows k))
+    found _ after k _ e (raised_finds_lem windows wid k ∙ raise_on_none wid k (find_window windows k))
 one_window_changes windows after (T.Draw wid x y w h coding bytes sequence stride) k e =
     found _ after k _ (ap Some (drawn_after wid x y w h coding bytes sequence stride windows after e))
     (find-change windows wid k (draws wid x y w h coding bytes sequence stride) (λ _. refl) ∙ drawn_on wid x y w h coding bytes sequence stride k (find_window windows k))
@@ -152,50 +122,27 @@ one_window_changes windows after (T.PingEcho t) k e = found windows after k _ e 
 one_window_changes windows after (T.Disconnect reason) k e = found windows after k _ e (disconnect_on_none reason k (find_window windows k))
 one_window_changes windows after T.Other k e = found windows after k _ e (other_on_none k (find_window windows k))
 
--- a change that keeps numbers keeps them distinct
-distinct-changed : (windows : List Window) (wid : ℕ) (change : Window → Window) → ((window : Window) → (change window).wid ≡ window.wid)
-    → AreDistinct windows → AreDistinct (changed_window windows wid change)
-distinct-changed windows wid change keeps apart =
-    let at : Window → Window = λ window. cond (eqb window.wid wid) (change window) window in
-    let kept : (window : Window) → (at window).wid ≡ window.wid =
-    λ window. cond_both (eqb window.wid wid) (change window) window (λ (z : Window). z.wid ≡ window.wid) (λ _. keeps window) (λ _. refl) in
-    let number : (k : ℕ) (d : Window) → k < length windows → (get_or (changed_window windows wid change) k d).wid ≡ (get_or windows k d).wid =
-    λ k d within. ap (λ (z : Window). z.wid) (get_or-map at windows k d d within) ∙ kept (get_or windows k d) in
-    λ i j d before within.
-    let there : j < length windows = omega (arith, length-map windows at) in
-    λ same. apart i j d before there (sym (number i d (omega arith)) ∙ same ∙ number j d there)
+abbrev kept : KeyedKeeps Window
+kept = keyed_keeps_lem Window
 
-distinct-opened : (windows : List Window) (new : Window) → AreDistinct windows → has_window windows new.wid ≡ false → AreDistinct (windows ++ new ∷ [])
-distinct-opened windows new apart missing = all_pairs_push (λ lower upper. lower.wid ≢ upper.wid) windows new apart (apart_from_missing windows new.wid missing)
-
-distinct-without : (windows : List Window) (wid : ℕ) → AreDistinct windows → AreDistinct (without_window windows wid)
-distinct-without windows wid apart = AllPairs-filter (λ lower upper. lower.wid ≢ upper.wid) (λ window. not (eqb window.wid wid)) windows apart
+abbrev number : Window → ℕ
+number window = window.wid
 
 distinct-new : (windows : List Window) (new : Window) (there : Bool) → has_window windows new.wid ≡ there → AreDistinct windows → AreDistinct (cond there windows (windows ++ new ∷ []))
 distinct-new windows new true e apart = apart
-distinct-new windows new false e apart = distinct-opened windows new apart e
-
--- no window without it has its number
-pub missing-without : (windows : List Window) (wid : ℕ) → has_window (without_window windows wid) wid ≡ false
-missing-without windows wid = let none = find-without windows wid wid in grind (arith, nat_tests)
-
-distinct-on_top : (windows : List Window) (wid : ℕ) (o : Option Window) → find_window windows wid ≡ o → AreDistinct windows → AreDistinct (on_top (without_window windows wid) o)
-distinct-on_top windows wid None e apart = distinct-without windows wid apart
-distinct-on_top windows wid (Some window) e apart =
-    distinct-opened (without_window windows wid) window (distinct-without windows wid apart)
-    (ap (has_window (without_window windows wid)) (found_number windows wid window e) ∙ missing-without windows wid)
+distinct-new windows new false e apart = kept.pushed number windows new apart e
 
 pub numbers_stay_distinct : NumbersStayDistinct
 numbers_stay_distinct windows after (T.Hello caps) apart e = subst AreDistinct (same_after _ after e) apart
 numbers_stay_distinct windows after (T.NewWindow wid x y w h) apart e =
     subst AreDistinct (same_after _ after e) (distinct-new windows (fresh_window wid x y w h) (has_window windows wid) refl apart)
-numbers_stay_distinct windows after (T.LostWindow wid) apart e = subst AreDistinct (same_after _ after e) (distinct-without windows wid apart)
-numbers_stay_distinct windows after (T.WindowResized wid w h) apart e = subst AreDistinct (same_after _ after e) (distinct-changed windows wid (resized_window w h) (λ _. refl) apart)
-numbers_stay_distinct windows after (T.WindowMoveResize wid x y w h) apart e = subst AreDistinct (same_after _ after e) (distinct-changed windows wid (moved_window x y) (λ _. refl) apart)
-numbers_stay_distinct windows after (T.RaiseWindow wid) apart e = subst AreDistinct (same_after _ after e) (distinct-on_top windows wid (find_window windows wid) refl apart)
+numbers_stay_distinct windows after (T.LostWindow wid) apart e = subst AreDistinct (same_after _ after e) (kept.removed number windows wid apart)
+numbers_stay_distinct windows after (T.WindowResized wid w h) apart e = subst AreDistinct (same_after _ after e) (kept.changed number windows wid (resized_window w h) (λ _. refl) apart)
+numbers_stay_distinct windows after (T.WindowMoveResize wid x y w h) apart e = subst AreDistinct (same_after _ after e) (kept.changed number windows wid (moved_window x y) (λ _. refl) apart)
+numbers_stay_distinct windows after (T.RaiseWindow wid) apart e = subst AreDistinct (same_after _ after e) (kept.moved number windows wid apart)
 numbers_stay_distinct windows after (T.Draw wid x y w h coding bytes sequence stride) apart e =
     subst AreDistinct (drawn_after wid x y w h coding bytes sequence stride windows after e)
-    (distinct-changed windows wid (draws wid x y w h coding bytes sequence stride) (λ _. refl) apart)
+    (kept.changed number windows wid (draws wid x y w h coding bytes sequence stride) (λ _. refl) apart)
 numbers_stay_distinct windows after (T.PingEcho t) apart e = subst AreDistinct (same_after _ after e) apart
 numbers_stay_distinct windows after (T.Disconnect reason) apart e = subst AreDistinct (same_after _ after e) apart
 numbers_stay_distinct windows after T.Other apart e = subst AreDistinct (same_after _ after e) apart

@@ -1,29 +1,12 @@
 -- What the server's packets do to the windows that a client shows, from bottom to top.
-use Rattle.std.specs.Prelude.{ℕ, ◌*◌, ◌/◌, ◌%◌, ◌==◌, Bool, false, not, ◌&&◌, nat_le, nat_eq, ℤ, if◌then◌else◌, Option, Some, None, List, [], ◌∷◌, ◌++◌, length, filter, slice_index}
+use Rattle.std.specs.Prelude.{ℕ, ◌*◌, ◌==◌, Bool, ◌&&◌, nat_le, nat_eq, if◌then◌else◌, Option, Some, None, List, length}
 use Rattle.xp_base.specs.Points.{Rectangle}
-use Rattle.xp_base.specs.Grid.{place_of}
 use Rattle.xp_base.specs.declared.coding.Coding.{Coding}
-use Rattle.window_model.specs.Drawing.{tabulated, placed}
-use Rattle.window_model.specs.Desktop.{Window, find_window, has_window, fresh_window, changed_window}
+use Rattle.window_model.specs.Desktop.{Window, has_window, fresh_window, opened, changed_window, without_window, raised, moved_window, resized_window, placed_window}
 use Rattle.rgb_encoders.specs.PixelBytes.{pixel_size}
 use Rattle.rgb_encoders.specs.Decoded.{decoded}
 use Rattle.packet_kinds.specs.declared.to_client.ToClient.{ToClient}
 use Rattle.packet_kinds.specs.declared.to_client.ToClient.TheVariants as T
-
--- which points keep their number when the client's window goes from w0 by h0 to w by h: none, in this version
-abbrev pub survives : ℕ → ℕ → ℕ → ℕ → ℕ → ℕ → Bool
-survives w0 h0 w h x y = false
-
--- a window of another size: what survives keeps its number, and all else is 0
-abbrev pub resized_window : ℕ → ℕ → Window → Window
-resized_window w h window = record window {
-  w = w;
-  h = h;
-  pixels = tabulated (w * h) (λ k. if survives window.w window.h w h (k % w) (k / w) then slice_index window.pixels (place_of window.w (k % w) (k / w)) else 0);
-}
-
-abbrev pub moved_window : ℤ → ℤ → Window → Window
-moved_window x y window = record window { x = x; y = y }
 
 -- the bytes of a draw are those of its pixels: a row has room for its pixels, and there are as many rows as it is high
 abbrev pub holds_pixels : Coding → ℕ → ℕ → ℕ → List ℕ → Bool
@@ -31,24 +14,16 @@ holds_pixels coding w h stride bytes = nat_le (w * pixel_size coding) stride && 
 
 -- the rectangle's decoded pixels stand where they lie in the window
 abbrev pub drawn_window : Rectangle → List ℕ → Window → Window
-drawn_window r numbers window = record window { pixels = placed window.w r numbers window.pixels }
-
--- the windows without the one of this number
-abbrev pub without_window : List Window → ℕ → List Window
-without_window windows wid = filter (λ window. not (window.wid == wid)) windows
-
-abbrev pub on_top : List Window → Option Window → List Window
-on_top windows None = windows
-on_top windows (Some window) = windows ++ window ∷ []
+drawn_window r numbers window = placed_window r numbers window
 
 -- the windows after a packet; none where a draw's bytes do not fit. A packet on a window that is not there does nothing.
 abbrev pub effect : List Window → ToClient → Option (List Window)
 effect windows (T.Hello caps) = Some windows
-effect windows (T.NewWindow wid x y w h) = Some (if has_window windows wid then windows else windows ++ fresh_window wid x y w h ∷ [])
+effect windows (T.NewWindow wid x y w h) = Some (if has_window windows wid then windows else opened windows wid x y w h)
 effect windows (T.LostWindow wid) = Some (without_window windows wid)
 effect windows (T.WindowResized wid w h) = Some (changed_window windows wid (resized_window w h))
 effect windows (T.WindowMoveResize wid x y w h) = Some (changed_window windows wid (moved_window x y))
-effect windows (T.RaiseWindow wid) = Some (on_top (without_window windows wid) (find_window windows wid))
+effect windows (T.RaiseWindow wid) = Some (raised windows wid)
 effect windows (T.Draw wid x y w h coding bytes sequence stride) =
     if holds_pixels coding w h stride bytes
     then Some (changed_window windows wid (drawn_window (record { x = x; y = y; w = w; h = h }) (decoded coding w h stride bytes)))

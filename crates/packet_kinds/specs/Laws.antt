@@ -1,19 +1,20 @@
 -- What the definitions of messages and pictures come to.
-use Rattle.std.specs.Prelude.{ℕ, ◌-◌, ◌*◌, ◌≡◌, ◌≢◌, ◌<◌, ◌↔◌, ℤ, true, Option, Some, None, Ok, List, [], ◌++◌, length, map, fold, AllPairs, if◌then◌else◌}
+use Rattle.std.specs.Prelude.{ℕ, ◌-◌, ◌*◌, ◌≡◌, ◌≢◌, ◌<◌, ◌↔◌, ℤ, true, Option, Some, None, Ok, List, [], ◌++◌, length, map, fold, if◌then◌else◌}
 use Rattle.std.specs.List.{AllByRecursion}
 use Rattle.std.specs.Option.{option_and_then}
 use Rattle.xp_base.specs.Points.{Rectangle, is_in, is_within}
 use Rattle.xp_base.specs.Grid.{number_at}
+use Rattle.xp_base.specs.Keyed.{HasDistinctKeys}
 use Rattle.xp_base.specs.declared.coding.Coding.{Coding}
 use Rattle.bencode_values.specs.declared.value.Value.{Value}
-use Rattle.window_model.specs.Desktop.{Window, IsDesktop, find_window, fresh_window}
+use Rattle.window_model.specs.Desktop.{Window, IsDesktop, find_window, fresh_window, resized_window}
 use Rattle.rgb_encoders.specs.Decoded.{decoded_at, decoded, HoldsPixels}
 use Rattle.packet_frames.specs.Stream.{packets_of}
 use Rattle.packet_kinds.specs.declared.to_client.ToClient.{ToClient}
 use Rattle.packet_kinds.specs.declared.to_client.ToClient.TheVariants as T
 use Rattle.packet_kinds.specs.ToShapes.{to_client}
 use Rattle.packet_kinds.specs.Fields.{IsInRange, IsNamed, HasFields}
-use Rattle.packet_kinds.specs.Effects.{survives, resized_window, holds_pixels, drawn_window, effect, effect_on}
+use Rattle.packet_kinds.specs.Effects.{holds_pixels, drawn_window, effect, effect_on}
 use Rattle.packet_kinds.specs.Picture.{picture}
 use Rattle.packet_kinds.specs.Written.{IsMessage, Show}
 
@@ -39,7 +40,7 @@ OneWindowChanges = (windows after : List Window) (m : ToClient) (k : ℕ) → ef
 
 -- no two windows have one number
 abbrev pub AreDistinct : List Window → Type 0
-AreDistinct windows = AllPairs (λ lower upper. lower.wid ≢ upper.wid) windows
+AreDistinct windows = HasDistinctKeys (λ window. window.wid) windows
 
 -- no packet makes a second window of one number
 abbrev pub NumbersStayDistinct : Type 0
@@ -62,6 +63,10 @@ HasBytes m = Unit {0}
 abbrev pub EffectKeepsDesktop : Type 0
 EffectKeepsDesktop = (windows after : List Window) (m : ToClient) → IsInRange m → HasBytes m → IsDesktop windows → effect windows m ≡ Some after → IsDesktop after
 
+-- the picture of any bytes is a desktop, each window of its size
+abbrev pub PictureIsDesktop : Type 0
+PictureIsDesktop = (limit : ℕ) (bytes : List ℕ) → AllByRecursion (λ byte. byte < 256) bytes → IsDesktop (picture limit bytes).windows
+
 -- a point of a drawn window shows the colour that was decoded for it in the rectangle, and what it showed elsewhere
 abbrev pub DrawShows : Type 0
 DrawShows = (window : Window) (r : Rectangle) (coding : Coding) (stride : ℕ) (bytes : List ℕ) (x y : ℕ)
@@ -77,10 +82,10 @@ DrawHoldsPixels = (coding : Coding) (w h stride : ℕ) (bytes : List ℕ) → (h
 abbrev pub NewWindowShows : Type 0
 NewWindowShows = (wid : ℕ) (x y : ℤ) (w h a b : ℕ) → is_within w h a b ≡ true → number_at w h (fresh_window wid x y w h).pixels a b ≡ Some 0
 
--- a point of a resized window shows what it showed where it survives, and 0 elsewhere: in this version 0 everywhere
+-- a point of a resized window shows what it showed where it was in the window before, and 0 elsewhere
 abbrev pub ResizeShows : Type 0
 ResizeShows = (window : Window) (w h x y : ℕ) → length window.pixels ≡ window.w * window.h → is_within w h x y ≡ true
-    → number_at w h (resized_window w h window).pixels x y ≡ (if survives window.w window.h w h x y then number_at window.w window.h window.pixels x y else Some 0)
+    → number_at w h (resized_window w h window).pixels x y ≡ (if is_within window.w window.h x y then number_at window.w window.h window.pixels x y else Some 0)
 
 -- behind its first fault a picture stays
 abbrev pub PictureStops : Type 0

@@ -10,5 +10,8 @@ pub mod FromWritten
 pub mod Talk
 pub mod Effects
 pub mod Picture
+pub mod DrawFields
 pub mod Written
 pub mod Laws
+pub mod Replies
+pub mod ReplyLaws

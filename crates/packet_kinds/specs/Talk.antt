@@ -1,7 +1,8 @@
 -- What a client has said, read from the bytes that it gave. Its first packet is kept as it is: it is read as a hello and by
 -- nothing else. The later ones are messages, up to the first fault.
-use Rattle.std.specs.Prelude.{ℕ, ◌≡◌, ◌≢◌, Option, Some, None, Result, Ok, Err, List, [], ◌∷◌, ◌++◌}
+use Rattle.std.specs.Prelude.{ℕ, ◌≡◌, ◌≢◌, ◌↔◌, Option, Some, None, Result, Ok, Err, List, [], ◌∷◌, ◌++◌}
 use Rattle.packet_frames.specs.Stream.{Packet, Fault, packets_of}
+use Rattle.packet_frames.specs.Following.{Framing, Follows}
 use Rattle.packet_frames.specs.Written.{IsClean}
 use Rattle.packet_kinds.specs.declared.fault.TalkFault.{TalkFault}
 use Rattle.packet_kinds.specs.declared.fault.TalkFault.TheVariants as F
@@ -73,6 +74,11 @@ abbrev pub PacketIsHeard : Type 0
 PacketIsHeard = (given : List Packet) (p : Packet) → (talk_of None given).fault ≡ None
     → talk_of None (given ++ p ∷ []) ≡ more_said (talk_of None given) p (talk_of None given).first
 
+-- behind packets without a fault, a first one among them, the later ones are heard next
+abbrev pub LaterAreHeard : Type 0
+LaterAreHeard = (fault : Option Fault) (given more : List Packet) → (talk_of None given).first ≢ None → (talk_of None given).fault ≡ None
+    → talk_of fault (given ++ more) ≡ record (talk_of None given) { said = (talk_of None given).said ++ (heard fault more).said; fault = (heard fault more).fault }
+
 -- packets without a fault that are followed by a fault of the bytes end in it
 abbrev pub FaultIsHeard : Type 0
 FaultIsHeard = (given : List Packet) (f : Fault) → (talk_of None given).fault ≡ None
@@ -92,3 +98,24 @@ MessageIsHeard = (limit : ℕ) (given bytes : List ℕ) (m : FromClient) → IsC
 abbrev pub PartIsUnheard : Type 0
 PartIsUnheard = (limit : ℕ) (given bytes front more : List ℕ) (m : FromClient) → IsClean (packets_of limit given)
     → IsClientMessage limit bytes m → bytes ≡ front ++ more → more ≢ [] → talk limit (given ++ front) ≡ talk limit given
+
+-- each packet is read as the message that is said at its place
+abbrev pub AreSaid : List Packet → List Said → Type 0
+AreSaid [] [] = Unit {0}
+AreSaid [] (s ∷ said) = ⊥
+AreSaid (p ∷ packets) [] = ⊥
+AreSaid (p ∷ packets) (s ∷ said) = (s.place ≡ p.place) × (from_client p.value ≡ Ok s.message) × AreSaid packets said
+
+-- packets have no fault exactly where each but the first is read as a message; these messages are said
+abbrev pub PacketsAreSaid : Type 0
+PacketsAreSaid = (first : Packet) (later : List Packet) (said : List Said)
+    → (talk_of None (first ∷ later) ≡ record { first = Some first; said = said; fault = None }) ↔ AreSaid later said
+
+-- the packets that a framer has given so far begin the talk of all bytes that it was fed
+abbrev pub GivenAreSaid : Type 0
+GivenAreSaid = (bytes : List ℕ) (given : List Packet) (f : Framing) → Follows bytes given f → Continues (talk_of None given) (talk f.limit bytes)
+
+-- a fault of a packet that it gave is the talk's, whatever else it was fed
+abbrev pub GivenFaultStays : Type 0
+GivenFaultStays = (bytes : List ℕ) (given : List Packet) (f : Framing) → Follows bytes given f → (talk_of None given).fault ≢ None
+    → talk f.limit bytes ≡ talk_of None given

@@ -49,6 +49,10 @@ to_client_named name items =
     else if bytes_eq name (codes "disconnect") then Ok (T.Disconnect (slice_get items 1))
     else Ok T.Other
 
+-- a list, by its first item
+abbrev pub list_to_client : List Value → Result ToClient ℕ
+list_to_client items = need 0 (bytes_at items 0) (λ name. to_client_named name items)
+
 -- a value that is no list, or whose first item is no byte string, does not fit at 0
 unfoldable pub to_client : Value → Result ToClient ℕ
-to_client v = need 0 (items_of v) (λ items. need 0 (bytes_at items 0) (λ name. to_client_named name items))
+to_client v = need 0 (items_of v) (λ items. list_to_client items)

@@ -1,7 +1,7 @@
 // What holds of all that clients say.
 ghost use Rattle.std.specs.Prelude.{◌≡◌, ◌≢◌, ℕ, None, List, [], ◌++◌};
 ghost use Rattle.packet_frames.specs.Stream.{packets_of};
-ghost use Rattle.packet_kinds.specs.Talk.{talk, talk_of, Continues, PacketIsHeard, FaultIsHeard, ShapeStays, MessageIsHeard, PartIsUnheard};
+ghost use Rattle.packet_kinds.specs.Talk.{talk, talk_of, Continues, PacketIsHeard, LaterAreHeard, FaultIsHeard, ShapeStays, MessageIsHeard, PartIsUnheard, PacketsAreSaid, GivenAreSaid, GivenFaultStays};
 
 /// No bytes say nothing.
 pub fn nothing_is_said_at_first()
@@ -22,6 +22,7 @@ pub fn nothing_is_heard_behind_a_fault()
 pub fn a_talk_goes_packet_by_packet()
     ensures whole { (limit : ℕ) (bytes : List ℕ) → talk limit bytes ≡ talk_of (packets_of limit bytes).fault (packets_of limit bytes).packets }
     ensures packet { PacketIsHeard }
+    ensures later { LaterAreHeard }
     ensures fault { FaultIsHeard }
     ensures shape { ShapeStays }
 {}
@@ -30,4 +31,16 @@ pub fn a_talk_goes_packet_by_packet()
 pub fn a_written_message_is_heard()
     ensures whole { MessageIsHeard }
     ensures part { PartIsUnheard }
+{}
+
+/// What is said is each packet behind the first as `read_from_client` reads it, and nothing else.
+pub fn what_is_said_is_what_is_read()
+    ensures { PacketsAreSaid }
+{}
+
+/// The packets that a framer has given so far begin the talk of all bytes that it was fed, and a fault of one of them
+/// is the talk's.
+pub fn a_talk_follows_a_framer()
+    ensures begins { GivenAreSaid }
+    ensures stops { GivenFaultStays }
 {}

@@ -47,6 +47,19 @@ fn bytes_of(value: &Value) -> Option<&Bytes>
     }
 }
 
+/// The byte string, where the value is one, moved out of it.
+#[tactic(auto, using(crate::proofs::Items::item_forms))]
+pub(crate) fn into_bytes(value: Value) -> Option<Bytes>
+    ensures { result ≡ bytes_of value }
+{
+    match value {
+        Value::Int(_number) => None,
+        Value::Bytes(text) => Some(text),
+        Value::List(_items) => None,
+        Value::Dict(_pairs) => None,
+    }
+}
+
 /// The integer at a place of a list, where there is one.
 pub(crate) fn int_at(items: &[Value], i: usize) -> Option<i64>
     ensures { result ≡ int_at items.now i }

@@ -2,7 +2,7 @@
 ghost use Rattle.std.specs.Prelude.{◌≡◌, ℕ, None, []};
 ghost use Rattle.packet_kinds.specs.Picture.{picture};
 ghost use Rattle.packet_kinds.specs.Written.{Show};
-ghost use Rattle.packet_kinds.specs.Laws.{MessageFollows, PartShowsNothing, MessageHasBytes, OneWindowChanges, NumbersStayDistinct, ReadHasFields, ReadIsInRange, EffectKeepsDesktop, DrawShows, DrawHoldsPixels, NewWindowShows, ResizeShows, PictureStops, PictureFolds};
+ghost use Rattle.packet_kinds.specs.Laws.{MessageFollows, PartShowsNothing, MessageHasBytes, OneWindowChanges, NumbersStayDistinct, ReadHasFields, ReadIsInRange, EffectKeepsDesktop, PictureIsDesktop, DrawShows, DrawHoldsPixels, NewWindowShows, ResizeShows, PictureStops, PictureFolds};
 
 /// No bytes show no window.
 pub fn nothing_is_shown_at_first()
@@ -47,6 +47,12 @@ pub fn an_effect_keeps_a_desktop()
     ensures { EffectKeepsDesktop }
 {}
 
+/// The picture of any bytes is a desktop: no two windows have one number, and each has as many pixels as its size
+/// says, in the ranges of a window.
+pub fn a_picture_is_a_desktop()
+    ensures { PictureIsDesktop }
+{}
+
 /// A point of a drawn window shows the colour that was decoded for it in the draw's rectangle, and what it
 /// showed elsewhere.
 pub fn a_draw_shows()
@@ -63,7 +69,7 @@ pub fn a_new_window_shows()
     ensures { NewWindowShows }
 {}
 
-/// A point of a resized window shows what it showed where it survives, and 0 elsewhere.
+/// A point of a resized window shows what it showed where it was in the window before, and 0 elsewhere.
 pub fn a_resize_shows()
     ensures { ResizeShows }
 {}

@@ -1,7 +1,7 @@
 // Reading packets from the server.
 ghost use Rattle.std.specs.Prelude.{◌≡◌, Ok, slice_get};
 ghost use Rattle.packet_kinds.specs.Answers.{Answers};
-ghost use Rattle.packet_kinds.specs.ToShapes.{to_client, to_client_named, ping_echo_in};
+ghost use Rattle.packet_kinds.specs.ToShapes.{list_to_client, to_client, to_client_named, ping_echo_in};
 ghost use Rattle.packet_kinds.specs.declared.to_client.ToClient.TheVariants as T;
 
 use crate::draws_in::draw_in;
@@ -21,6 +21,13 @@ pub fn read_to_client(alloc: Global, value: &Value) -> Result<ToClient, KindFaul
     ensures { Answers (to_client value.now) result }
 {
     let items = items_of(value).ok_or(KindFault::Shape(0))?.as_slice();
+    list_to_client(alloc, items)
+}
+
+/// The same of a list.
+pub(crate) fn list_to_client(alloc: Global, items: &[Value]) -> Result<ToClient, KindFault>
+    ensures { Answers (list_to_client items.now) result }
+{
     let name = bytes_at(items, 0).ok_or(KindFault::Shape(0))?.as_slice();
     to_client_named(alloc, name, items)
 }

@@ -4,3 +4,5 @@ pub mod Lengths
 pub mod Shown
 pub mod Points
 pub mod Encodings
+pub mod Vectors
+pub mod Rows

@@ -36,7 +36,7 @@ abbrev pub first_decoded : Coding → ℕ → ℕ → List ℕ → ℕ → List 
 first_decoded coding w stride bytes count = map (λ k. decoded_at coding stride bytes (k % w) (k / w)) (range_with_len 0 count)
 
 -- one pixel more
-decoded_more : (coding : Coding) (w stride : ℕ) (bytes : List ℕ) (x y : ℕ) → x < w
+pub decoded_more : (coding : Coding) (w stride : ℕ) (bytes : List ℕ) (x y : ℕ) → x < w
     → first_decoded coding w stride bytes (y * w + (x + 1)) ≡ first_decoded coding w stride bytes (y * w + x) ++ decoded_at coding stride bytes x y ∷ []
 decoded_more coding w stride bytes x y left =
     let f : ℕ → ℕ = λ k. decoded_at coding stride bytes (k % w) (k / w) in

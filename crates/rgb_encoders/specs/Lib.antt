@@ -3,3 +3,4 @@ pub mod PixelBytes
 pub mod Decoded
 pub mod Encoding
 pub mod Laws
+pub mod Rows

@@ -2,8 +2,8 @@
 ghost use Rattle.std.specs.Prelude.{◌≤◌};
 ghost use Rattle.rgb_encoders.specs.Decoded.{DecodeGives};
 
+use crate::blocks::block_decoding;
 use crate::fault::DataFault;
-use crate::plain::plain_decoding;
 use crate::sizes::pixel_size;
 use std::alloc::Global;
 use xp_base::{Coding, Pixels};
@@ -30,7 +30,7 @@ pub fn decode(
     if bytes.len() != stride as usize * h as usize {
         return Err(DataFault::Length(bytes.len()));
     }
-    match plain_decoding(alloc, coding, w, h, stride, bytes) {
+    match block_decoding(alloc, coding, w, h, stride, bytes) {
         Ok(pixels) => Ok(Pixels::new(pixels)),
         Err(_) => Err(DataFault::NoMemory),
     }

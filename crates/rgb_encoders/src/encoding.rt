@@ -3,7 +3,7 @@ ghost use Rattle.std.specs.Prelude.{◌≡◌, IfOk};
 ghost use Rattle.std.specs.Arc.{arc_value};
 ghost use Rattle.rgb_encoders.specs.Encoding.{encoding_of};
 
-use crate::plain::plain_encoding;
+use crate::blocks::block_encoding;
 use std::alloc::Global;
 use std::marker::Model;
 use std::sync::Arc;
@@ -33,6 +33,6 @@ pub fn encode(alloc: Global, capture: Arc<Capture>) -> Result<Encoded, NoMemory>
 {
     // A rectangle, and so a capture, has at most 4,096 times 4,096 pixels.
     let _count = capture.rect.area();
-    let bytes = plain_encoding(alloc, capture.coding, capture.pixels.as_slice())?;
+    let bytes = block_encoding(alloc, capture.coding, capture.pixels.as_slice())?;
     Ok(Encoded { capture, bytes })
 }

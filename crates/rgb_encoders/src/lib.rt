@@ -1,9 +1,11 @@
 //! The two codings of pixels: four bytes a pixel, exactly, or two bytes a pixel, with a stated loss.
 #![tactic(auto)]
 
+mod blocks;
 mod decoding;
 mod encoding;
 mod fault;
+mod lanes;
 mod laws;
 mod plain;
 mod sizes;
@@ -16,6 +18,3 @@ pub use laws::{
 };
 pub use plain::{plain_decoding, plain_encoding};
 pub use sizes::pixel_size;
-
-#[cfg(test)]
-mod tests;

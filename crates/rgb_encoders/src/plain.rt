@@ -47,7 +47,7 @@ fn write_lossy(pixels: &[Pixel], bytes: &mut [u8])
     }
 }
 
-fn lossy_number(pixel: Pixel) -> u32
+pub(crate) fn lossy_number(pixel: Pixel) -> u32
     ensures value { result ≡ lossy_number pixel }
     ensures small { result < 65536 }
 {
@@ -84,7 +84,7 @@ pub fn plain_decoding(
 }
 
 #[inline(always)]
-fn read_pixel(coding: Coding, bytes: &[u8], place: usize) -> Pixel
+pub(crate) fn read_pixel(coding: Coding, bytes: &[u8], place: usize) -> Pixel
     requires { place + pixel_size coding ≤ length bytes.now }
     ensures { result ≡ colour_at coding bytes.now place }
 {

@@ -4,7 +4,7 @@ use Rattle.std.proofs.lemmas.List.{append-nil}
 use Rattle.link_bay.specs.Connections.{ConnectionRecord, OthersStay}
 use Rattle.link_bay.specs.Provider.{ProviderRecord}
 use Rattle.window_model.specs.Desktop.{Window}
-use Rattle.paint_script.specs.declared.paint.Paint.{Paint}
+use Rattle.first_script.specs.declared.paint.Paint.{Paint}
 use Rattle.session_core.specs.declared.answers.Accepted.{Accepted}
 use Rattle.session_core.specs.declared.answers.Accepted.TheVariants as A
 use Rattle.client_connection.specs.declared.ends.End.{End}

@@ -6,9 +6,9 @@ use Rattle.std.proofs.lemmas.List.{map-set, map-append, length-map, length-appen
 use Rattle.std.proofs.lemmas.Option.{slice_get-get_or}
 use Rattle.std.specs.Option.{option_map, is_some}
 use Rattle.std.specs.Prelude.{IsSome, slice_get}
-use Rattle.paint_script.specs.Painting.{desk_at}
+use Rattle.first_script.specs.Painting.{desk_at}
 use Rattle.window_model.specs.Desktop.{Window}
-use Rattle.paint_script.specs.declared.paint.Paint.{Paint}
+use Rattle.first_script.specs.declared.paint.Paint.{Paint}
 use Rattle.client_connection.specs.declared.ends.End.{End}
 use Rattle.client_connection.specs.declared.ends.End.TheVariants.{Unended}
 use Rattle.client_connection.specs.Clients.{ClientSeen, plain}

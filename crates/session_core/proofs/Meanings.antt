@@ -11,7 +11,7 @@ use Rattle.link_bay.specs.declared.bay.Gave.TheVariants as G
 use Rattle.link_bay.specs.declared.bay.Wrote.{Wrote}
 use Rattle.link_bay.specs.declared.bay.Wrote.TheVariants as W
 use Rattle.window_model.specs.Desktop.{Window}
-use Rattle.paint_script.specs.declared.paint.Paint.{Paint}
+use Rattle.first_script.specs.declared.paint.Paint.{Paint}
 use Rattle.client_connection.specs.declared.ends.End.{End}
 use Rattle.client_connection.specs.declared.ends.End.TheVariants as E
 use Rattle.client_connection.specs.declared.ends.Trouble.{Trouble}

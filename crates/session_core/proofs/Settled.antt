@@ -6,8 +6,8 @@ use Rattle.std.proofs.lemmas.List.{append-nil}
 use Rattle.xp_base.specs.Counts.{Rose}
 use Rattle.link_bay.specs.Connections.{ConnectionRecord}
 use Rattle.window_model.specs.Desktop.{Window, IsDesktop, has_window}
-use Rattle.paint_script.specs.declared.paint.Paint.{Paint}
-use Rattle.paint_script.specs.Validity.{ArePaints}
+use Rattle.first_script.specs.declared.paint.Paint.{Paint}
+use Rattle.first_script.specs.Validity.{ArePaints}
 use Rattle.packet_kinds.specs.Written.{Show}
 use Rattle.client_connection.specs.declared.packet.Packet.{Packet}
 use Rattle.client_connection.specs.declared.source.Source.{Source}

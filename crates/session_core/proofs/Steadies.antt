@@ -10,7 +10,7 @@ use Rattle.std.proofs.lemmas.Bool.{cases_eq}
 use Rattle.xp_base.specs.Told.{told_append, told_empty}
 use Rattle.link_bay.specs.Connections.{ConnectionRecord, OthersStay, fresh_connection}
 use Rattle.window_model.specs.Desktop.{Window, IsWindow, IsDesktop, find_window}
-use Rattle.paint_script.specs.declared.paint.Paint.{Paint}
+use Rattle.first_script.specs.declared.paint.Paint.{Paint}
 use Rattle.client_connection.specs.declared.answers.Sent.{Sent}
 use Rattle.client_connection.specs.declared.answers.Captured.{Captured}
 use Rattle.client_connection.specs.Clients.{ClientSeen, plain, fresh_client, painted_client}
@@ -19,14 +19,14 @@ use Rattle.client_connection.specs.declared.ends.End.{End}
 use Rattle.client_connection.specs.declared.ends.End.TheVariants.{Unended}
 use Rattle.session_core.specs.Steady.{IsSteady}
 use Rattle.client_connection.specs.Told.{IsToldFor}
-use Rattle.paint_script.specs.Painting.{desk_at, painted}
+use Rattle.first_script.specs.Painting.{desk_at, painted}
 use Rattle.client_connection.specs.Given.{IsKnown}
 use Rattle.session_core.specs.State.{is_unended}
 use Rattle.session_core.proofs.Lives.{session_slot, session_ended, session_accepted, session_painted, length_same, live_same}
 use Rattle.session_core.proofs.Each.{InSlot, each_slot, each_here, each_none, each_all, each_accepted, each_others}
 use Rattle.client_connection.proofs.Knowns.{known_fresh, known_same, writes_known, captures_known, hears_known, line_known}
 use Rattle.client_connection.proofs.Sources.{some_same}
-use Rattle.paint_script.specs.Validity.{IsPaintOn}
+use Rattle.first_script.specs.Validity.{IsPaintOn}
 use Rattle.client_connection.proofs.Tellings.{told_fresh}
 use Rattle.client_connection.proofs.Keeping.{captured_where, heard_where, line_where, writes_told}
 

@@ -12,8 +12,8 @@ use Rattle.link_bay.specs.declared.bay.Gave.TheVariants as G
 use Rattle.link_bay.specs.declared.bay.Wrote.{Wrote}
 use Rattle.link_bay.specs.declared.bay.Wrote.TheVariants as W
 use Rattle.window_model.specs.Desktop.{Window}
-use Rattle.paint_script.specs.declared.paint.Paint.{Paint}
-use Rattle.paint_script.specs.Validity.{ArePaints}
+use Rattle.first_script.specs.declared.paint.Paint.{Paint}
+use Rattle.first_script.specs.Validity.{ArePaints}
 use Rattle.session_core.specs.declared.answers.Received.{Received}
 use Rattle.session_core.specs.declared.answers.Received.TheVariants as R
 use Rattle.client_connection.specs.declared.answers.Captured.{Captured}

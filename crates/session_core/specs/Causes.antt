@@ -3,7 +3,7 @@ use Rattle.std.specs.Prelude.{ℕ, ◌+◌, ◌≤◌, ◌≡◌, ◌≢◌, ◌
 use Rattle.xp_base.specs.Counts.{Rose, RoseBy}
 use Rattle.link_bay.specs.Connections.{ConnectionRecord}
 use Rattle.window_model.specs.Desktop.{Window}
-use Rattle.paint_script.specs.declared.paint.Paint.{Paint}
+use Rattle.first_script.specs.declared.paint.Paint.{Paint}
 use Rattle.client_connection.specs.declared.ends.End.{End}
 use Rattle.client_connection.specs.declared.ends.End.TheVariants as end
 use Rattle.client_connection.specs.Given.{IsBuilt, HasHello, TellsAll}

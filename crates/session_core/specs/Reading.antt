@@ -4,7 +4,7 @@ use Rattle.link_bay.specs.Connections.{ConnectionRecord}
 use Rattle.link_bay.specs.Answers.{ReadGives}
 use Rattle.link_bay.specs.declared.bay.Gave.TheVariants as G
 use Rattle.window_model.specs.Desktop.{Window}
-use Rattle.paint_script.specs.declared.paint.Paint.{Paint}
+use Rattle.first_script.specs.declared.paint.Paint.{Paint}
 use Rattle.client_connection.specs.declared.ends.End.{End}
 use Rattle.client_connection.specs.declared.ends.End.TheVariants as end
 use Rattle.session_core.specs.declared.answers.Received.{Received}

@@ -3,7 +3,7 @@ use Rattle.std.specs.Prelude.{ℕ, ◌≡◌, Bool, true, false, IsSomeAnd, Opti
 use Rattle.std.specs.Option.{option_map}
 use Rattle.link_bay.specs.Connections.{ConnectionRecord}
 use Rattle.window_model.specs.Desktop.{Window}
-use Rattle.paint_script.specs.declared.paint.Paint.{Paint}
+use Rattle.first_script.specs.declared.paint.Paint.{Paint}
 use Rattle.client_connection.specs.declared.answers.Captured.{Captured}
 use Rattle.client_connection.specs.declared.answers.Captured.TheVariants as C
 use Rattle.client_connection.specs.declared.answers.Sent.{Sent}

@@ -1,8 +1,8 @@
 -- A session, as contracts see it, and what every session keeps.
 use Rattle.std.specs.Prelude.{ℕ, ◌≤◌, ◌<◌, ◌^◌, ◌≡◌, Bool, true, false, Option, Some, None, List, length, map, slice_get, slice_set, count_by, is_some}
 use Rattle.window_model.specs.Desktop.{Window}
-use Rattle.paint_script.specs.declared.paint.Paint.{Paint}
-use Rattle.paint_script.specs.Painting.{desk_at}
+use Rattle.first_script.specs.declared.paint.Paint.{Paint}
+use Rattle.first_script.specs.Painting.{desk_at}
 use Rattle.client_connection.specs.Clients.{ClientSeen}
 use Rattle.client_connection.specs.declared.ends.End.{End}
 use Rattle.client_connection.specs.declared.ends.End.TheVariants.{Settled, Unbuilt, Short, Unended}

@@ -2,7 +2,7 @@
 use Rattle.std.specs.Prelude.{ℕ, Bool, Option, List}
 use Rattle.link_bay.specs.Connections.{ConnectionRecord}
 use Rattle.window_model.specs.Desktop.{Window}
-use Rattle.paint_script.specs.declared.paint.Paint.{Paint}
+use Rattle.first_script.specs.declared.paint.Paint.{Paint}
 use Rattle.client_connection.specs.declared.ends.End.{End}
 use Rattle.client_connection.specs.Clients.{ClientSeen}
 use Rattle.session_core.specs.Slots.{plain_clients, AreTold, AreKnown}

@@ -6,8 +6,8 @@ use Rattle.link_bay.specs.Connections.{ConnectionRecord}
 use Rattle.link_bay.specs.Provider.{ProviderRecord}
 use Rattle.link_bay.specs.Answers.{AcceptGives}
 use Rattle.link_bay.specs.declared.bay.Accept.TheVariants as L
-use Rattle.paint_script.specs.declared.paint.Paint.{Paint}
-use Rattle.paint_script.specs.Painting.{painted}
+use Rattle.first_script.specs.declared.paint.Paint.{Paint}
+use Rattle.first_script.specs.Painting.{painted}
 use Rattle.session_core.specs.declared.answers.Painted.{Painted}
 use Rattle.session_core.specs.declared.answers.Painted.TheVariants as P
 use Rattle.session_core.specs.declared.answers.Accepted.{Accepted}

@@ -21,6 +21,3 @@ pub use answers::{Accepted, Painted, Received};
 pub use client_connection::{Captured, End, Sent, Text};
 pub use settle::{Calm, How};
 pub use state::Session;
-
-#[cfg(test)]
-mod tests;

@@ -1,7 +1,7 @@
 // Paint steps.
 ghost use Rattle.std.specs.Prelude.{◌≡◌, OnOk, OnErr, map};
-ghost use Rattle.paint_script.specs.Painting.{painted};
-ghost use Rattle.paint_script.specs.Validity.{IsPaintOn};
+ghost use Rattle.first_script.specs.Painting.{painted};
+ghost use Rattle.first_script.specs.Validity.{IsPaintOn};
 ghost use Rattle.client_connection.specs.Clients.{painted_client, plain, damaged};
 ghost use Rattle.std.specs.Option.{option_map};
 ghost use Rattle.window_model.specs.Desktop.{IsInWindow, filled_on};
@@ -11,8 +11,8 @@ use crate::answers::Painted;
 use crate::opening::open_window;
 use crate::state::Session;
 use client_connection::{Client, Geometry};
+use first_script::{Paint, desk_at_next};
 use link_bay::Bay;
-use paint_script::{Paint, desk_at_next};
 use std::alloc::Global;
 use window_model::Desk;
 use xp_base::{NoMemory, Pixel, Rect, Wid};

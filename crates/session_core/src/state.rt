@@ -5,8 +5,8 @@ ghost use Rattle.link_bay.specs.Answers.{OrderGives};
 ghost use Rattle.link_bay.specs.Connections.{AllStay};
 
 use client_connection::{Client, End};
+use first_script::{Paints, desk_at_start};
 use link_bay::{Bay, Order};
-use paint_script::{Paints, desk_at_start};
 use std::alloc::Global;
 use std::marker::Model;
 use window_model::Desk;
@@ -50,7 +50,7 @@ impl<B: Bay + Drop> Session<B> {
     ghost use Rattle.session_core.specs.State.{Seen, IsSession};
     ghost use Rattle.session_core.specs.Slots.{AreTold, AreKnown};
     ghost use Rattle.window_model.specs.Desktop.{IsDesktop};
-    ghost use Rattle.paint_script.specs.Validity.{ArePaints};
+    ghost use Rattle.first_script.specs.Validity.{ArePaints};
 
     /// A session before its first paint line. `Err` is want of memory, and hands the provider back.
     pub fn new(alloc: Global, paints: Paints, bay: B) -> Result<Session<B>, B>

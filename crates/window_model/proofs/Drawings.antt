@@ -1,15 +1,18 @@
 -- What drawing makes, place by place.
-use Rattle.std.proofs.Common.{◌≡◌, inl, inr, ℕ, ◌+◌, ◌-◌, ◌*◌, ◌^◌, ◌<◌, lit<, List, ◌++◌, length, take, drop, get_or, cond, sym, ap, ◌∙◌, arith}
+use Rattle.std.proofs.Common.{◌≡◌, inl, inr, ℕ, ◌+◌, ◌-◌, ◌*◌, ◌/◌, ◌%◌, ◌^◌, ◌<◌, lit<, zero, suc, List, [], ◌∷◌, ◌++◌, length, take, drop, get_or, cond, ltb, min, ◌&&◌, refl, sym, ap, ◌∙◌, append_assoc, arith}
 use Rattle.std.proofs.Math.Nat.{suc-mul}
+use Rattle.std.proofs.lemmas.Nat.{mod_below}
+use Rattle.std.proofs.lemmas.Bool.Decides.{nat_tests}
 use Rattle.std.proofs.lemmas.Bool.{cases_lt, cond_both}
-use Rattle.std.proofs.lemmas.List.Elements.{All-replicate, All-get_or, All-from_get_or}
+use Rattle.std.proofs.lemmas.List.Elements.{All-replicate, All-get_or, All-from_get_or, All-cons, All-nil}
 use Rattle.std.specs.List.{All}
 use Rattle.std.proofs.lemmas.List.{length-replicate, get_or-replicate, get_or_append_left, get_or-append_right, get_or-take, get_or-drop, get_or_past}
 use Rattle.window_model.proofs.Places.{crop_place}
 use Rattle.std.proofs.lemmas.List.FromFn.{length-map-range_with_len, get_or-map-range_with_len, fill_by_all}
-use Rattle.xp_base.specs.Points.{Rectangle, area}
-use Rattle.xp_base.specs.Grid.{is_place_in}
-use Rattle.window_model.specs.Drawing.{blank, filled, placed, cropped, place_within, place_without}
+use Rattle.xp_base.specs.Points.{Rectangle, area, survives}
+use Rattle.xp_base.specs.Grid.{is_place_in, place_of}
+use Rattle.window_model.specs.Drawing.{blank, filled, placed, cropped, copied, resized, put_at, place_within, place_without}
+use Rattle.window_model.specs.Generator.{next_state, colour_of, noise}
 
 pub length-blank : (w h : ℕ) → length (blank w h) ≡ w * h
 unfolding blank
@@ -115,3 +118,61 @@ All-placed wide r numbers pixels new all =
     rw (get_or-placed wide r numbers pixels k (omega (arith, length-placed wide r numbers pixels)))
     (cond_both (is_place_in wide r k) (get_or numbers (place_within wide r k) 0) (get_or pixels k 0) IsColour
     (λ _. IsColour-get_or numbers (place_within wide r k) new) (λ _. IsColour-get_or pixels k all)))
+
+pub All-cropped : (wide : ℕ) (r : Rectangle) (pixels : List ℕ) → All IsColour pixels → All IsColour (cropped wide r pixels)
+All-cropped wide r pixels all =
+    All-from_get_or IsColour (cropped wide r pixels) 0
+    (λ k within. rw (get_or-cropped wide r pixels k (omega (arith, length-cropped wide r pixels))) (IsColour-get_or pixels (place_without wide r k) all))
+
+pub length-copied : (wide : ℕ) (r : Rectangle) (x y : ℕ) (pixels : List ℕ) → length (copied wide r x y pixels) ≡ length pixels
+length-copied wide r x y pixels = length-placed wide (put_at x y r) (cropped wide r pixels) pixels
+
+pub All-copied : (wide : ℕ) (r : Rectangle) (x y : ℕ) (pixels : List ℕ) → All IsColour pixels → All IsColour (copied wide r x y pixels)
+All-copied wide r x y pixels all = All-placed wide (put_at x y r) (cropped wide r pixels) pixels (All-cropped wide r pixels all) all
+
+-- what a place of the resized pixels shows
+abbrev pub kept_at : ℕ → ℕ → ℕ → ℕ → List ℕ → ℕ → ℕ
+kept_at w0 h0 w h pixels k = cond (survives w0 h0 w h (k % w) (k / w)) (get_or pixels (place_of w0 (k % w) (k / w)) 0) 0
+
+pub length-resized : (w0 h0 w h : ℕ) (pixels : List ℕ) → length (resized w0 h0 w h pixels) ≡ w * h
+unfolding resized
+length-resized w0 h0 w h pixels = length-map-range_with_len (kept_at w0 h0 w h pixels) 0 (w * h)
+
+pub get_or-resized : (w0 h0 w h : ℕ) (pixels : List ℕ) (k : ℕ) → k < w * h → get_or (resized w0 h0 w h pixels) k 0 ≡ kept_at w0 h0 w h pixels k
+unfolding resized
+get_or-resized w0 h0 w h pixels k within = get_or-map-range_with_len (kept_at w0 h0 w h pixels) 0 (w * h) k k 0 within (omega arith)
+
+-- a list that reads so is the resized one
+pub resized_from : (w0 h0 w h : ℕ) (pixels new : List ℕ) → length new ≡ w * h
+    → ((k : ℕ) → k < w * h → get_or new k 0 ≡ kept_at w0 h0 w h pixels k) → new ≡ resized w0 h0 w h pixels
+unfolding resized
+resized_from w0 h0 w h pixels new sized each = fill_by_all _ new (w * h) 0 sized each
+
+pub All-resized : (w0 h0 w h : ℕ) (pixels : List ℕ) → All IsColour pixels → All IsColour (resized w0 h0 w h pixels)
+All-resized w0 h0 w h pixels all =
+    All-from_get_or IsColour (resized w0 h0 w h pixels) 0
+    (λ k within.
+    rw (get_or-resized w0 h0 w h pixels k (omega (arith, length-resized w0 h0 w h pixels)))
+    (cond_both (survives w0 h0 w h (k % w) (k / w)) (get_or pixels (place_of w0 (k % w) (k / w)) 0) 0 IsColour
+    (λ _. IsColour-get_or pixels (place_of w0 (k % w) (k / w)) all) (λ _. lit< tt)))
+
+-- the columns and rows that both sizes have
+pub overlap : (w0 h0 w h x y : ℕ) → (ltb x (min w w0) && ltb y (min h h0)) ≡ survives w0 h0 w h x y
+overlap w0 h0 w h x y = grind (arith, nat_tests)
+
+pub length-noise : (state count : ℕ) → length (noise state count) ≡ count
+length-noise state zero = refl
+length-noise state (suc count) = ap suc (length-noise (next_state state) count)
+
+pub All-noise : (state count : ℕ) → All IsColour (noise state count)
+All-noise state zero = All-nil IsColour
+All-noise state (suc count) = All-cons IsColour (colour_of (next_state state)) (noise (next_state state) count) (mod_below (next_state state / 2 ^ 33) (2 ^ 24) (lit< tt)) (All-noise (next_state state) count)
+
+-- so many pixels, of which some are made: one more
+pub noise-more : (all made : List ℕ) (state rest : ℕ) → 0 < rest → all ≡ made ++ noise state rest
+    → all ≡ (made ++ colour_of (next_state state) ∷ []) ++ noise (next_state state) (rest - 1)
+noise-more all made state zero some is = absurd (omega arith)
+noise-more all made state (suc rest) some is =
+    let less : suc rest - 1 ≡ rest = omega arith in
+    is ∙ sym (append_assoc made (colour_of (next_state state) ∷ []) (noise (next_state state) rest))
+    ∙ ap (λ n. (made ++ colour_of (next_state state) ∷ []) ++ noise (next_state state) n) (sym less)

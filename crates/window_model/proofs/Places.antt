@@ -80,3 +80,36 @@ crop_place wide r row k from below =
     let row_is : k / r.w ≡ row = subst (λ z. z / r.w ≡ row) (sym is) (div-mul-add row r.w j within) in
     let column_is : k % r.w ≡ j = subst (λ z. z % r.w ≡ j) (sym is) (mod-mul-add row r.w j within) in
     ap (λ z. place_of wide (r.x + z) (r.y + k / r.w)) column_is ∙ ap (λ z. place_of wide (r.x + j) (r.y + z)) row_is ∙ omega arith
+
+run_start_plain : (w n row q m k : ℕ) → k ≡ q * w + m → m < w → n ≤ w → (leb (row * w) k && ltb k (row * w + n)) ≡ (ltb m n && eqb q row)
+run_start_plain w n row q m k is within across = elim (cases_order q row) [
+  | inl same ↦ let e : q * w ≡ row * w = ap (λ z. z * w) same in grind (arith, nat_tests, e, same)
+  | inr other ↦ elim other [
+    | inl above ↦ let h = later_row w q row above in grind (arith, nat_tests, h)
+    | inr below ↦ let h = later_row w row q below in grind (arith, nat_tests, h)
+  ]
+]
+
+-- one row more of those that keep their first n numbers in rows of another width
+pub one_row_kept : (w before n i k : ℕ) → 0 < w → n ≤ w → (was : ℕ) (number : ℕ → ℕ)
+    → cond (leb (i * w) k && ltb k (i * w + n)) (number (i * before + (k - i * w)))
+    (cond (ltb (k % w) n && ltb (k / w) i) (number (place_of before (k % w) (k / w))) was)
+    ≡ cond (ltb (k % w) n && ltb (k / w) (i + 1)) (number (place_of before (k % w) (k / w))) was
+one_row_kept w before n i k some across was number =
+    let here : leb (i * w) k && ltb k (i * w + n) ≡ true → number (i * before + (k - i * w)) ≡ number (place_of before (k % w) (k / w)) =
+    λ within.
+    let bounds : (i * w ≤ k) × (k < i * w + n) = grind (arith, nat_tests) in
+    let j = k - i * w in
+    let is : k ≡ i * w + j = omega (arith, bounds.0) in
+    let below : j < w = omega (arith, bounds.1) in
+    let row : k / w ≡ i = subst (λ z. z / w ≡ i) (sym is) (div-mul-add i w j below) in
+    let column : k % w ≡ j = subst (λ z. z % w ≡ j) (sym is) (mod-mul-add i w j below) in
+    ap number (ap (λ z. z * before + j) (sym row) ∙ ap (λ z. k / w * before + z) (sym column)) in
+    let run = run_start_plain w n i (k / w) (k % w) k (sym (div-add-mod' k w)) (mod_below k w some) across in
+    let same : (b : Bool) (one two rest : ℕ) → (b ≡ true → one ≡ two) → cond b one rest ≡ cond b two rest =
+    λ b one two rest h. elim b as (λ v. (v ≡ true → one ≡ two) → cond v one rest ≡ cond v two rest) [ true ↦ λ g. g refl | false ↦ λ g. refl ] h in
+    same _ _ _ _ here ∙ rw run (grind (arith, nat_tests))
+
+-- no row yet
+pub no_row : (m n q number : ℕ) → cond (ltb m n && ltb q 0) number 0 ≡ 0
+no_row m n q number = grind (arith, nat_tests)

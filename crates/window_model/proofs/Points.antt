@@ -8,11 +8,11 @@ use Rattle.std.proofs.lemmas.Bool.Decides.{nat_tests}
 use Rattle.std.proofs.lemmas.Option.{slice_get-get_or}
 use Rattle.std.proofs.lemmas.List.{same_lists, get_or_default}
 use Rattle.window_model.proofs.Places.{some_width}
-use Rattle.xp_base.specs.Points.{Rectangle, is_in, is_within, whole}
+use Rattle.xp_base.specs.Points.{Rectangle, is_in, is_within, whole, survives}
 use Rattle.xp_base.specs.Grid.{number_at, place_of, is_place_in}
-use Rattle.window_model.specs.Drawing.{blank, filled, placed, cropped, place_within, place_without}
-use Rattle.window_model.specs.Laws.{BlankShows, FilledShows, PlacedShows, CroppedShows, DrawnSizes, DrawnWhole}
-use Rattle.window_model.proofs.Drawings.{length-blank, get_or-blank, length-filled, get_or-filled, length-placed, get_or-placed, length-cropped, get_or-cropped}
+use Rattle.window_model.specs.Drawing.{blank, filled, placed, cropped, resized, put_at, place_within, place_without}
+use Rattle.window_model.specs.Laws.{BlankShows, FilledShows, PlacedShows, CroppedShows, CopiedShows, ResizedShows, DrawnSizes, DrawnWhole}
+use Rattle.window_model.proofs.Drawings.{length-blank, get_or-blank, length-filled, get_or-filled, length-placed, get_or-placed, length-cropped, get_or-cropped, length-copied, length-resized, get_or-resized, length-noise}
 
 -- a point of the window has a place in its list
 pub place_below : (w h x y : ℕ) → is_within w h x y ≡ true → place_of w x y < w * h
@@ -89,8 +89,31 @@ cropped_shows_lem w h r pixels x y sized lies within =
     ∙ ap (λ z. Some (get_or pixels (place_of w (r.x + x) (r.y + z)) 0)) parts.1
     ∙ sym (number_at-inside w h pixels (r.x + x) (r.y + y) sized inside)
 
+pub copied_shows_lem : CopiedShows
+copied_shows_lem w h r tx ty pixels x y sized lies target within =
+    let to : Rectangle = put_at tx ty r in
+    let here : is_in to x y ≡ true → number_at r.w r.h (cropped w r pixels) (x - tx) (y - ty) ≡ number_at w h pixels (r.x + (x - tx)) (r.y + (y - ty)) =
+    λ inside.
+    let shifted : is_within r.w r.h (x - tx) (y - ty) ≡ true = grind (arith, nat_tests) in
+    cropped_shows_lem w h r pixels (x - tx) (y - ty) sized lies shifted in
+    placed_shows_lem w h to (cropped w r pixels) pixels x y sized (length-cropped w r pixels) within
+    ∙ cond_same (is_in to x y) (number_at r.w r.h (cropped w r pixels) (x - tx) (y - ty)) (number_at w h pixels (r.x + (x - tx)) (r.y + (y - ty))) (number_at w h pixels x y) here
+
+pub resized_shows_lem : ResizedShows
+resized_shows_lem w0 h0 w h pixels x y sized within =
+    let k = place_of w x y in
+    let parts = place_parts w h x y within in
+    let test : survives w0 h0 w h x y ≡ is_within w0 h0 x y = grind (arith, nat_tests) in
+    number_at-inside w h (resized w0 h0 w h pixels) x y (length-resized w0 h0 w h pixels) within
+    ∙ ap Some (get_or-resized w0 h0 w h pixels k (place_below w h x y within))
+    ∙ ap (λ z. Some (cond (survives w0 h0 w h z (k / w)) (get_or pixels (place_of w0 z (k / w)) 0) 0)) parts.0
+    ∙ ap (λ z. Some (cond (survives w0 h0 w h x z) (get_or pixels (place_of w0 x z) 0) 0)) parts.1
+    ∙ Some-cond (survives w0 h0 w h x y) (get_or pixels (place_of w0 x y) 0) 0
+    ∙ ap (λ b. cond b (Some (get_or pixels (place_of w0 x y) 0)) (Some 0)) test
+    ∙ cond_same (is_within w0 h0 x y) (Some (get_or pixels (place_of w0 x y) 0)) (number_at w0 h0 pixels x y) (Some 0) (λ inside. sym (number_at-inside w0 h0 pixels x y sized inside))
+
 pub drawn_sizes_lem : DrawnSizes
-drawn_sizes_lem = record { fresh = length-blank; filling = length-filled; placing = length-placed; cropping = length-cropped }
+drawn_sizes_lem = record { fresh = length-blank; filling = length-filled; placing = length-placed; cropping = length-cropped; copying = length-copied; resizing = length-resized; generating = length-noise }
 
 -- the whole of a window holds every place of it
 pub is_place_in-whole : (w h k : ℕ) → k < w * h → is_place_in w (whole w h) k ≡ true

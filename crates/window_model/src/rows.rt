@@ -1,7 +1,7 @@
 // Pixels in rows of a window, one run of a row at a time.
 ghost use Rattle.std.specs.Prelude.{◌≡◌, ◌≤◌, ◌<◌, ◌+◌, ◌-◌, ◌*◌, ◌^◌, ℕ, ◌&&◌, nat_le, nat_lt, if◌then◌else◌, length, slice_index, All, IfOk};
 ghost use Rattle.xp_base.specs.Points.{LiesIn, area};
-ghost use Rattle.window_model.specs.Drawing.{blank, filled, placed, cropped};
+ghost use Rattle.window_model.specs.Drawing.{blank, filled, placed, cropped, resized};
 ghost use Rattle.window_model.specs.Desktop.{IsSide};
 
 use std::alloc::Global;
@@ -95,4 +95,30 @@ pub fn crop_rows(
         numbers.extend_from_slice(&pixels[start..start + r.w as usize])?;
     }
     Ok(numbers)
+}
+
+/// The pixels of a window that gets another size: the rows of both sizes, as far as both are wide, and all else 0.
+pub fn resize_rows(
+    alloc: Global,
+    pixels: &[Pixel],
+    wide_before: u32,
+    high_before: u32,
+    wide: u32,
+    high: u32,
+) -> Result<Vec<Pixel>, NoMemory>
+    requires wide_before { IsSide wide_before }
+    requires high_before { IsSide high_before }
+    requires wide { IsSide wide }
+    requires high { IsSide high }
+    requires sized { length pixels.now ≡ wide_before * high_before }
+    ensures { IfOk result (λ made. made.items ≡ resized wide_before high_before wide high pixels.now) }
+{
+    let mut resized = blank_pixels(alloc, wide, high)?;
+    let count = wide.min(wide_before) as usize;
+    for row in 0..high.min(high_before) {
+        let start = (row * wide) as usize;
+        let from = (row * wide_before) as usize;
+        copy_run(&mut resized, start, pixels, from, count);
+    }
+    Ok(resized)
 }

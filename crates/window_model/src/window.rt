@@ -1,10 +1,10 @@
 // A window and drawing in it.
 ghost use Rattle.std.specs.Prelude.{◌≡◌, ◌*◌, length, IfOk};
 ghost use Rattle.xp_base.specs.Points.{LiesIn, area};
-ghost use Rattle.window_model.specs.Drawing.{cropped};
+ghost use Rattle.window_model.specs.Drawing.{cropped, resized};
 ghost use Rattle.window_model.specs.Desktop.{IsSide, IsPlace};
 
-use crate::rows::{blank_pixels, copy_rows, crop_rows, fill_rows, see_colours};
+use crate::rows::{blank_pixels, copy_rows, crop_rows, fill_rows, resize_rows, see_colours};
 use std::alloc::Global;
 use std::marker::Model;
 use std::mem;
@@ -33,7 +33,7 @@ impl Model for Win {
 }
 
 impl Win {
-    ghost use Rattle.window_model.specs.Desktop.{IsWindow, fresh_window, filled_window, placed_window};
+    ghost use Rattle.window_model.specs.Desktop.{IsWindow, fresh_window, filled_window, placed_window, moved_window, resized_window};
 
     /// All pixels are 0.
     pub(crate) fn new(
@@ -105,5 +105,37 @@ impl Win {
         ensures sized { IfOk result (λ pixels. length pixels ≡ area r) }
     {
         Ok(Pixels::new(crop_rows(alloc, self.pixels.as_slice(), self.w, self.h, r)?))
+    }
+
+    /// The pixels that the window has once its size is this one.
+    pub(crate) fn resized_pixels(&self, alloc: Global, w: u32, h: u32) -> Result<Pixels, NoMemory>
+        requires wide { IsSide w }
+        requires high { IsSide h }
+        ensures { IfOk result (λ pixels. pixels ≡ resized self.now.w self.now.h w h self.now.pixels) }
+    {
+        Ok(Pixels::new(resize_rows(alloc, self.pixels.as_slice(), self.w, self.h, w, h)?))
+    }
+
+    /// Another size, with the pixels that were made for it.
+    pub(crate) fn resize(&mut self, w: u32, h: u32, pixels: Pixels)
+        requires wide { IsSide w }
+        requires high { IsSide h }
+        requires made { pixels ≡ resized self.old.w self.old.h w h self.old.pixels }
+        ensures value { self.new ≡ resized_window w h self.old }
+        ensures kept { IsWindow self.new }
+    {
+        self.w = w;
+        self.h = h;
+        self.pixels = pixels;
+    }
+
+    pub(crate) fn move_to(&mut self, x: i32, y: i32)
+        requires across { IsPlace x }
+        requires down { IsPlace y }
+        ensures value { self.new ≡ moved_window x y self.old }
+        ensures kept { IsWindow self.new }
+    {
+        self.x = x;
+        self.y = y;
     }
 }

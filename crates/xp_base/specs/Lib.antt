@@ -8,3 +8,6 @@ pub mod Streams
 pub mod Memory
 pub mod Answers
 pub mod Adapters
+pub mod Clocks
+pub mod Keyed
+pub mod KeyedLaws

@@ -47,7 +47,8 @@ impl Source for MemSource {
 
     fn get(&mut self, into: &mut Vec<u8>, max: u32) -> Get
         requires { 1 ≤ max }
-        ensures answer { GetGives (input_record self.old) (input_record self.new) into.old.items into.new.items max result }
+        ensures answer { GetGives (input_record self.old) (input_record self.new)
+            into.old.items into.new.items max result }
 
         // A call fails exactly where its number is in the list, and gives all that is asked for and left.
         ensures state { self.new ≡ after_get self.old result }

@@ -24,5 +24,6 @@ pub trait Source {
     /// Appends at most `max` bytes. Every answer but `Got` appends nothing.
     fn get(&mut self, into: &mut Vec<u8>, max: u32) -> Get
         requires { 1 ≤ max }
-        ensures answer { GetGives (source self.old) (source self.new) into.old.items into.new.items max result };
+        ensures answer { GetGives (source self.old) (source self.new)
+            into.old.items into.new.items max result };
 }

@@ -5,11 +5,11 @@ use Rattle.std.proofs.lemmas.List.Elements.{All-get_or}
 use Rattle.std.proofs.lemmas.Option.{slice_get_within, unwrap_or-slice_get}
 use Rattle.xp_base.specs.Told.{told_append, HandsOut, HasNoneLeft}
 use Rattle.link_bay.specs.Connections.{ConnectionRecord}
-use Rattle.paint_script.specs.declared.line.Line.{Line}
-use Rattle.paint_script.specs.declared.paint.Paint.{Paint}
-use Rattle.paint_script.specs.Painting.{last_desk}
-use Rattle.paint_script.specs.Reading.{script_of}
-use Rattle.paint_script.specs.Validity.{paint_lines, peer_orders}
+use Rattle.first_script.specs.declared.line.Line.{Line}
+use Rattle.first_script.specs.declared.paint.Paint.{Paint}
+use Rattle.first_script.specs.Painting.{last_desk}
+use Rattle.first_script.specs.Reading.{script_of}
+use Rattle.first_script.specs.Validity.{paint_lines, peer_orders}
 use Rattle.window_model.specs.Desktop.{Window}
 use Rattle.client_connection.specs.declared.ends.End.{End}
 use Rattle.client_connection.specs.declared.ends.End.TheVariants as E

@@ -1,3 +1,4 @@
 pub mod Scripts
 pub mod Tops
 pub mod Endings
+pub mod WordsLemmas

@@ -3,11 +3,11 @@ use Rattle.std.proofs.Common.{◌≡◌, ℕ, ◌+◌, ◌≤◌, zero, suc, Lis
 use Rattle.std.specs.Prelude.{slice_get, false}
 use Rattle.std.specs.Result.{is_err}
 use Rattle.std.proofs.lemmas.Option.{same_Some}
-use Rattle.paint_script.specs.declared.line.Line.{Line}
-use Rattle.paint_script.specs.declared.line.Line.TheVariants as L
-use Rattle.paint_script.specs.declared.paint.Paint.{Paint}
+use Rattle.first_script.specs.declared.line.Line.{Line}
+use Rattle.first_script.specs.declared.line.Line.TheVariants as L
+use Rattle.first_script.specs.declared.paint.Paint.{Paint}
 use Rattle.link_bay.specs.declared.order.Order.{Order}
-use Rattle.paint_script.specs.Validity.{paint_lines, peer_orders}
+use Rattle.first_script.specs.Validity.{paint_lines, peer_orders}
 use Rattle.xp_base.specs.Told.{told_append}
 use Rattle.std.proofs.lemmas.List.{append_assoc}
 use Rattle.link_bay.specs.Provider.{ProviderRecord}

@@ -3,10 +3,10 @@ use Rattle.std.proofs.Common.{◌≡◌, ℕ, ◌+◌, ◌<◌, Option, Result, 
 use Rattle.std.proofs.lemmas.List.{append-nil, length-append}
 use Rattle.std.proofs.lemmas.Bool.Decides.{nat_tests}
 use Rattle.xp_base.specs.Told.{told_append, HandsOut, HasNoneLeft}
-use Rattle.paint_script.specs.declared.line.Line.{Line}
-use Rattle.paint_script.specs.Reading.{script_of}
-use Rattle.paint_script.specs.Validity.{paint_lines}
-use Rattle.paint_script.specs.Painting.{last_desk}
+use Rattle.first_script.specs.declared.line.Line.{Line}
+use Rattle.first_script.specs.Reading.{script_of}
+use Rattle.first_script.specs.Validity.{paint_lines}
+use Rattle.first_script.specs.Painting.{last_desk}
 use Rattle.client_connection.specs.declared.ends.End.{End}
 use Rattle.xpra_server.specs.Read.{ReadsPast}
 use Rattle.xpra_server.specs.Report.{report}

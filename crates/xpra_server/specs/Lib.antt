@@ -1,3 +1,5 @@
+pub mod DryClient
+pub mod Words
 pub mod Read
 pub mod Texts
 pub mod Report

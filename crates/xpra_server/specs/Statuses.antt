@@ -1,14 +1,14 @@
 -- What the program's words and input come to, and what is written with each status. This project's own.
 use Rattle.std.specs.Prelude.{ℕ, ◌≡◌, ◌≢◌, ◌≤◌, Bool, false, slice_get, length, take, All, IsOk, Option, Some, None, Result, Ok, Err, List, [], ◌∷◌, codes}
 use Rattle.xp_base.specs.Told.{told_append}
-use Rattle.paint_script.specs.declared.line.Line.{Line}
-use Rattle.paint_script.specs.Reading.{script_of}
-use Rattle.paint_script.specs.Validity.{paint_lines, peer_orders}
-use Rattle.paint_script.specs.Painting.{last_desk}
+use Rattle.first_script.specs.declared.line.Line.{Line}
+use Rattle.first_script.specs.Reading.{script_of}
+use Rattle.first_script.specs.Validity.{paint_lines, peer_orders}
+use Rattle.first_script.specs.Painting.{last_desk}
 use Rattle.link_bay.specs.declared.order.Order.{Order}
 use Rattle.client_connection.specs.declared.ends.End.{End}
 use Rattle.client_connection.specs.declared.ends.End.TheVariants.{Settled, Short}
-use Rattle.paint_script.specs.declared.paint.Paint.{Paint}
+use Rattle.first_script.specs.declared.paint.Paint.{Paint}
 use Rattle.link_bay.specs.Connections.{ConnectionRecord}
 use Rattle.session_core.specs.Causes.{HasCause, IsUnbuiltFor}
 use Rattle.session_core.specs.State.{is_unended}

@@ -7,16 +7,16 @@ ghost use Rattle.xpra_server.specs.Statuses.{IsPlay, RanWell, Faults, IsScript, 
 ghost use Rattle.xpra_server.specs.Read.{ReadsPast};
 ghost use Rattle.xpra_server.specs.Report.{report as report_text};
 ghost use Rattle.xpra_server.specs.Texts.{fault_line};
-ghost use Rattle.paint_script.specs.Painting.{last_desk};
-ghost use Rattle.paint_script.specs.Validity.{paint_lines, peer_orders};
+ghost use Rattle.first_script.specs.Painting.{last_desk};
+ghost use Rattle.first_script.specs.Validity.{paint_lines, peer_orders};
 ghost use Rattle.xpra_server.specs.Texts.{usage_line};
 
 use crate::input::{Input, read_all};
 use crate::playing::{Played, Stop, play};
 use crate::report::write_report;
 use crate::texts::{fault_text, usage};
+use first_script::{Script, ScriptRead, read_script};
 use link_bay::Bay;
-use paint_script::{Script, ScriptRead, read_script};
 use session_core::End;
 use std::alloc::Global;
 use xp_base::{Put, Sink, Source};

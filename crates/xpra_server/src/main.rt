@@ -3,29 +3,30 @@
 
 mod calls;
 #[cfg(test)]
-mod closing_bay;
+mod dry_bay;
 mod input;
 mod playing;
 mod report;
 mod texts;
+mod words;
 
+use crate::calls::top;
+use crate::words::{status_of, words_of};
 use link_bay::OneBay;
+use std::env;
 use std::io::writer;
 use std::process::ExitCode;
-use std::{env, io};
 use xp_base::{ReaderSource, WriterSink};
 
 #[cfg(test)]
 mod tests;
 
-fn main(rt: HostRuntime) -> io::Result<ExitCode> {
+fn main(rt: HostRuntime) -> ExitCode {
     let alloc = rt.alloc();
-    let mut words = Vec::new(alloc);
-    for word in env::args(&rt)?.skip(1) {
-        words.push(word)?;
-    }
+    let words = words_of(alloc, env::args(&rt));
     let mut input = ReaderSource::new(rt.reader());
     let mut out = WriterSink::new(writer(&rt));
-    let outcome = calls::top(&words, &mut input, &mut out, OneBay::new(alloc));
-    Ok(ExitCode::from(outcome.status))
+    ExitCode::from(status_of(alloc, words, |words| {
+        top(words, &mut input, &mut out, OneBay::new(alloc))
+    }))
 }

@@ -2,13 +2,13 @@
 ghost use Rattle.std.specs.Prelude.{◌≡◌, ◌≢◌, All, true, Err, OnOk, IfOk, IsOk, length};
 ghost use Rattle.xp_base.specs.Counts.{Rose};
 ghost use Rattle.link_bay.specs.Provider.{IsFresh};
-ghost use Rattle.paint_script.specs.Painting.{last_desk};
-ghost use Rattle.paint_script.specs.Validity.{paint_lines, peer_orders};
+ghost use Rattle.first_script.specs.Painting.{last_desk};
+ghost use Rattle.first_script.specs.Validity.{paint_lines, peer_orders};
 ghost use Rattle.xp_base.specs.Told.{told_append};
 ghost use Rattle.xpra_server.specs.Statuses.{AreEnds, AllHaveCauses};
 
+use first_script::{Line, Script, desk_at_end};
 use link_bay::Bay;
-use paint_script::{Line, Script, desk_at_end};
 use session_core::{End, How, Painted, Session};
 use std::alloc::Global;
 use window_model::Desk;

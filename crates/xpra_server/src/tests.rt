@@ -1,7 +1,7 @@
 use crate::calls::{Outcome, top};
-use crate::closing_bay::ClosingBay;
-use link_bay::{Kind, MuteBay, Name, OneBay, Order, PassingBay};
-use paint_script::{Script, ScriptRead, read_script};
+use crate::dry_bay::DryBay;
+use first_script::{Script, ScriptRead, read_script};
+use link_bay::{Kind, MuteBay, Name, OneBay, Order, PassingBay, TapeBay};
 use session_core::{Accepted, End, Session};
 use std::alloc::Global;
 use std::test::Fail;
@@ -190,21 +190,21 @@ fn each_connection_is_closed_once_at_the_end_of_a_run(rt: HostRuntime) -> Result
     ] {
         let mut input = MemSource::new(script.to_vec(alloc)?, numbers(alloc, &[])?);
         let mut out = MemSink::new(alloc, numbers(alloc, &[])?);
-        let bay = ClosingBay::new(OneBay::new(alloc));
+        let bay = PassingBay::new(OneBay::new(alloc));
         let outcome = top(&words, &mut input, &mut out, bay);
         assert_eq!(rt; outcome.status, 0);
-        assert_eq!(rt; outcome.bay.closes, [closes, 0, 0, 0]);
+        assert_eq!(rt; outcome.bay.closes(), [closes, 0, 0, 0]);
     }
     let mut input = MemSource::new(Vec::new(alloc), numbers(alloc, &[])?);
     let mut out = MemSink::new(alloc, numbers(alloc, &[])?);
-    let bay = PassingBay::new(ClosingBay::new(MuteBay::new(alloc, 2, 10)));
+    let bay = PassingBay::new(MuteBay::new(alloc, 2, 10));
     let outcome = top(&words, &mut input, &mut out, bay);
     assert_eq!(rt; outcome.status, 0);
     assert_eq!(rt;
         outcome.ends.as_slice(),
         [End::Unbuilt, End::Unbuilt].as_slice()
     );
-    assert_eq!(rt; outcome.bay.into_inner().closes, [1, 1, 0, 0]);
+    assert_eq!(rt; outcome.bay.closes(), [1, 1, 0, 0]);
     Ok(())
 }
 
@@ -220,7 +220,7 @@ fn script_of(alloc: Global, text: &[u8]) -> Result<Script, Fail> {
 fn a_session_that_is_abandoned_closes_its_connections_once(rt: HostRuntime) -> Result<(), Fail> {
     let alloc = rt.alloc();
     let script = script_of(alloc, b"peer exact\n")?;
-    let bay = ClosingBay::new(OneBay::new(alloc));
+    let bay = PassingBay::new(OneBay::new(alloc));
     let Ok(mut session) = Session::new(alloc, script.paints(alloc)?, bay) else {
         return Err("no session".into());
     };
@@ -230,6 +230,51 @@ fn a_session_that_is_abandoned_closes_its_connections_once(rt: HostRuntime) -> R
     };
     let left = session.abandon();
     assert_eq!(rt; left.ends.as_slice(), [End::Unended].as_slice());
-    assert_eq!(rt; left.bay.closes, [1, 0, 0, 0]);
+    assert_eq!(rt; left.bay.closes(), [1, 0, 0, 0]);
+    Ok(())
+}
+
+#[test]
+fn a_client_is_given_up_at_the_thousandth_write_that_takes_nothing(
+    rt: HostRuntime,
+) -> Result<(), Fail> {
+    let alloc = rt.alloc();
+    let words = words_of(alloc, "play")?;
+    for (dry, end) in [(999, End::Settled), (1_000, End::Unbuilt)] {
+        let mut input = MemSource::new(b"peer exact\n".to_vec(alloc)?, numbers(alloc, &[])?);
+        let mut out = MemSink::new(alloc, numbers(alloc, &[])?);
+        let outcome = top(&words, &mut input, &mut out, DryBay::new(dry));
+        assert_eq!(rt; outcome.status, 0);
+        assert_eq!(rt; outcome.ends.as_slice(), [end].as_slice());
+        assert_eq!(rt; outcome.bay.counts.dry, u64::from(dry));
+    }
+    Ok(())
+}
+
+#[test]
+fn the_text_goes_out_in_one_piece(rt: HostRuntime) -> Result<(), Fail> {
+    let alloc = rt.alloc();
+    for (words, script, status) in [
+        ("play", b"open 1 0 0 1 1\npeer exact\n".as_slice(), 0),
+        ("play", b"close 1\n".as_slice(), 2),
+        ("crowd", b"".as_slice(), 1),
+    ] {
+        let mut out = MemSink::new(alloc, numbers(alloc, &[2])?);
+        let outcome = played(alloc, words, script, &mut out)?;
+        assert_eq!(rt; outcome.status, status);
+    }
+    Ok(())
+}
+
+#[test]
+fn a_failed_accept_leaves_no_text(rt: HostRuntime) -> Result<(), Fail> {
+    let alloc = rt.alloc();
+    let words = words_of(alloc, "play")?;
+    let mut input = MemSource::new(b"peer exact\n".to_vec(alloc)?, numbers(alloc, &[])?);
+    let mut out = MemSink::new(alloc, numbers(alloc, &[])?);
+    let bay = TapeBay::new(Vec::new(alloc), numbers(alloc, &[1])?);
+    let outcome = top(&words, &mut input, &mut out, bay);
+    assert_eq!(rt; outcome.status, 6);
+    assert_eq!(rt; out.bytes(), b"".as_slice());
     Ok(())
 }

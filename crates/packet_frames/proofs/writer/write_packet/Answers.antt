@@ -6,7 +6,7 @@ use Rattle.packet_frames.proofs.writer.write_packet.Goals as goal
 pub returns-clause-bytes : goal.returns-clause-bytes
 returns-clause-bytes c =
     c.in_ok-push_frame.ensures
-    ∙ ap (λ (xs : List ℕ). xs ++ frame_bytes 0 c.as_slice.result.now) (c.in_ok-push_chunk.ensures ∙ ap (λ (xs : List ℕ). xs ++ chunk_bytes c.args.chunk) c.new-bytes.ensures.items)
+    ∙ ap (λ (xs : List ℕ). xs ++ frame_bytes 0 c.as_slice.result.now) (c.in_ok-push_chunk.ensures ∙ ap (λ (xs : List ℕ). xs ++ chunk_bytes c.args.chunk) c.in_ok-bytes.ensures.items)
     ∙ ap (λ (content : List ℕ). chunk_bytes c.args.chunk ++ frame_bytes 0 content) (c.as_slice.ensures.value ∙ c.in_ok-content.ensures)
     ∙ packet_bytes_are c.args.value.now c.args.chunk
 

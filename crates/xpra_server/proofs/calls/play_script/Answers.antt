@@ -1,4 +1,4 @@
-use Rattle.paint_script.specs.Validity.{paint_lines}
+use Rattle.first_script.specs.Validity.{paint_lines}
 use Rattle.xpra_server.proofs.Endings.{causes_as}
 use Rattle.xpra_server.proofs.calls.play_script.Goals as goal
 

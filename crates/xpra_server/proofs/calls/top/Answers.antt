@@ -1,5 +1,5 @@
 use Rattle.std.proofs.Common.{◌≡◌, Err, refl, sym, ap, ◌∙◌}
-use Rattle.paint_script.specs.Reading.{script_of}
+use Rattle.first_script.specs.Reading.{script_of}
 use Rattle.xpra_server.proofs.Endings.{ran_well, right_of_whole, runs_well, no_fault, no_long, nobody_right}
 use Rattle.xpra_server.proofs.Tops.{faults_long, nothing_printed, part_of_whole, part_of_long}
 use Rattle.xpra_server.proofs.calls.top.Goals as goal

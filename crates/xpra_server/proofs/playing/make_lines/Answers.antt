@@ -2,9 +2,9 @@ use Rattle.std.proofs.Common.{◌≡◌, ◌+◌, ◌<◌, suc, length, Some, ge
 use Rattle.std.specs.Prelude.{slice_get}
 use Rattle.std.proofs.lemmas.Option.{slice_get-get_or}
 use Rattle.link_bay.specs.declared.order.Order.{Order}
-use Rattle.paint_script.specs.declared.line.Line.{Line}
-use Rattle.paint_script.specs.declared.line.Line.TheVariants as L
-use Rattle.paint_script.specs.declared.paint.Paint.{Paint}
+use Rattle.first_script.specs.declared.line.Line.{Line}
+use Rattle.first_script.specs.declared.line.Line.TheVariants as L
+use Rattle.first_script.specs.declared.paint.Paint.{Paint}
 use Rattle.session_core.specs.State.{Seen}
 use Rattle.session_core.specs.Steps.{after_paint}
 use Rattle.xpra_server.proofs.Scripts.{painted_before_paint, painted_before_all, painted_next_paint, painted_next_peer, order_faults, order_lulls, asked_next_paint, asked_more, order_asked}

@@ -1,5 +1,5 @@
 use Rattle.std.proofs.Common.{◌≡◌, length, take}
-use Rattle.paint_script.specs.Validity.{paint_lines, peer_orders}
+use Rattle.first_script.specs.Validity.{paint_lines, peer_orders}
 use Rattle.xp_base.specs.Told.{told_append}
 use Rattle.xpra_server.proofs.playing.make_lines.Given as goal
 

@@ -1,6 +1,6 @@
 use Rattle.std.proofs.Common.{◌≡◌, [], rules}
-use Rattle.paint_script.specs.Painting.{last_desk}
-use Rattle.paint_script.specs.Validity.{paint_lines}
+use Rattle.first_script.specs.Painting.{last_desk}
+use Rattle.first_script.specs.Validity.{paint_lines}
 use Rattle.xpra_server.proofs.Endings.{all_end, causes_as}
 use Rattle.xpra_server.proofs.playing.play.Goals as goal
 

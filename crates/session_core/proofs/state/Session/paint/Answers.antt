@@ -1,6 +1,6 @@
 use Rattle.std.proofs.Common.{◌+◌, ap, sym, ◌∙◌, subst}
-use Rattle.paint_script.specs.Validity.{IsPaintOn}
-use Rattle.paint_script.specs.Painting.{painted}
+use Rattle.first_script.specs.Validity.{IsPaintOn}
+use Rattle.first_script.specs.Painting.{painted}
 use Rattle.session_core.proofs.Steadies.{steady_painted, steady_plain}
 use Rattle.session_core.proofs.state.Session.paint.Goals as goal
 

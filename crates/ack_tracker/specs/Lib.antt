@@ -1,0 +1,3 @@
+pub mod Unacknowledged
+pub mod Places
+pub mod Laws

@@ -1,0 +1,4 @@
+pub mod Weights
+pub mod Changed
+pub mod Orders
+pub mod Relieved

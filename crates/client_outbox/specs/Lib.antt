@@ -1,0 +1,4 @@
+pub mod Outgoing
+pub mod Sending
+pub mod Reliefs
+pub mod Laws

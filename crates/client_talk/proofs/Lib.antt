@@ -1,0 +1,4 @@
+pub mod Handled
+pub mod Listening
+pub mod Bytes
+pub mod Marking

@@ -1,0 +1,4 @@
+pub mod InHand
+pub mod Filing
+pub mod Kept
+pub mod Laws

@@ -1,0 +1,10 @@
+use Rattle.std.proofs.Common.{◌≡◌, map, take}
+use Rattle.first_script.specs.Text.{digit, value}
+use Rattle.first_script.proofs.Digits.{AreDigits}
+use Rattle.first_script.proofs.numbers.numeral.Given as goal
+
+abbrev pub invariant-loop-byte : goal.invariant-loop-byte
+invariant-loop-byte l = record {
+  stands_for : l.number ≡ value l.base (map digit (take l.byte-index l.word));
+  are : AreDigits l.base (take l.byte-index l.word);
+}

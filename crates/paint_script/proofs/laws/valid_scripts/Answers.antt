@@ -1,5 +1,0 @@
-use Rattle.paint_script.proofs.Scripts.{script_is}
-use Rattle.paint_script.proofs.laws.valid_scripts.Goals as goal
-
-pub returns : goal.returns
-returns c = script_is

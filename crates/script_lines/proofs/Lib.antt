@@ -1,0 +1,5 @@
+pub mod Digits
+pub mod TextLemmas
+pub mod PlacesLemmas
+pub mod RangesLemmas
+pub mod FormsLemmas

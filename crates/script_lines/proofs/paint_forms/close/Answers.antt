@@ -1,0 +1,23 @@
+use Rattle.std.proofs.Common.{◌≡◌, ◌∙◌, ℕ, List, [], ◌∷◌, Ok, Err, sym, ap}
+use Rattle.std.proofs.lemmas.Result.{err_from_is_err_and}
+use Rattle.script_lines.specs.declared.paint.Paint.TheVariants as lines
+use Rattle.script_lines.specs.declared.kinds.PaintKind.TheVariants as kind
+use Rattle.script_lines.specs.Text.{words_of}
+use Rattle.script_lines.specs.Arguments.{Number, Place, Colour, Hex, nth_word, number_of, place_of, colour_of, read}
+use Rattle.script_lines.specs.Forms.{wid, point, side, client, paint_line, paint_form}
+use Rattle.script_lines.proofs.PlacesLemmas.{read_one, read_next, read_ok, read_err}
+use Rattle.script_lines.proofs.paint_forms.close.Goals as goal
+
+pub returns-in_err-wid : goal.returns-in_err-wid
+returns-in_err-wid c =
+    let whole : c.only.result ≡ read (wid ∷ []) (λ (words : List (List ℕ)). number_of (nth_word 0 words)) (words_of c.args.words.now) =
+    read_one wid number_of (words_of c.args.words.now) (words_of c.wid_in-wid.result.1.now) c.wid_in-wid.result.0 c.only.result c.wid_in-wid.ensures.value c.wid_in-wid.ensures.rest c.only.ensures in
+    let p = err_from_is_err_and c.from_residual.result c.from_residual.ensures.1 in
+    p.1 ∙ ap Err p.2 ∙ sym (read_err (wid ∷ []) (λ (words : List (List ℕ)). number_of (nth_word 0 words)) (paint_line kind.Close) (words_of c.args.words.now) c.in_err-wid.field-0.0 (sym whole ∙ c.in_err-wid.was))
+
+pub returns : goal.returns
+returns c =
+    let whole : c.only.result ≡ read (wid ∷ []) (λ (words : List (List ℕ)). number_of (nth_word 0 words)) (words_of c.args.words.now) =
+    read_one wid number_of (words_of c.args.words.now) (words_of c.wid_in-wid.result.1.now) c.wid_in-wid.result.0 c.only.result c.wid_in-wid.ensures.value c.wid_in-wid.ensures.rest c.only.ensures in
+    let is = read_ok (wid ∷ []) (λ (words : List (List ℕ)). number_of (nth_word 0 words)) (paint_line kind.Close) (words_of c.args.words.now) c.in_ok-wid.wid (sym whole ∙ c.in_ok-wid.was) in
+    sym (is.0 ∙ ap (λ (p : ℕ). Ok (lines.Close p)) is.1)

@@ -1,0 +1,10 @@
+pub mod Text
+pub mod Numbers
+pub mod Arguments
+pub mod Places
+pub mod Kinds
+pub mod Forms
+pub mod Ranges
+pub mod Whys
+pub mod Reading
+pub mod Laws

@@ -1,0 +1,64 @@
+-- A window's source, as contracts see it: the model's window of one client without the desktop's pixels, the client's window and
+-- the packets that wait. This project's own.
+use Rattle.std.specs.Prelude.{ℕ, Bool, Option, None, List, []}
+use Rattle.delivery_model.specs.Grids.{Points, Grid}
+use Rattle.delivery_model.specs.Window.{Job, Packet, Sent, Window}
+
+-- the connection and the window, the window's size in pixels, and all else that the model's window has of the source
+pub record SourceSeen : Type 0 where
+  pub conn : ℕ
+  pub wid : ℕ
+  pub wide : ℕ
+  pub high : ℕ
+  pub mapped : Bool
+  pub jobs : List Job
+  pub pending : Points
+  pub pending_since : ℕ
+  pub lossy : Points
+  pub lossy_since : ℕ
+  pub unacknowledged : List Sent
+  pub next_sequence : ℕ
+  pub delay : ℕ
+
+-- the model's window, with the desktop's pixels row by row, what the client shows of it, and the packets on it that wait
+abbrev pub window_of : SourceSeen → List ℕ → Option Grid → List Packet → Window
+window_of s numbers client packets = record {
+  desk = record { wide = s.wide; high = s.high; numbers = numbers };
+  client = client;
+  packets = packets;
+  jobs = s.jobs;
+  pending = s.pending;
+  pending_since = s.pending_since;
+  lossy = s.lossy;
+  lossy_since = s.lossy_since;
+  unacknowledged = s.unacknowledged;
+  next_sequence = s.next_sequence;
+  mapped = s.mapped;
+  delay = s.delay;
+}
+
+-- what a source has of the model's window
+abbrev pub source_of : ℕ → ℕ → Window → SourceSeen
+source_of conn wid w = record {
+  conn = conn;
+  wid = wid;
+  wide = w.desk.wide;
+  high = w.desk.high;
+  mapped = w.mapped;
+  jobs = w.jobs;
+  pending = w.pending;
+  pending_since = w.pending_since;
+  lossy = w.lossy;
+  lossy_since = w.lossy_since;
+  unacknowledged = w.unacknowledged;
+  next_sequence = w.next_sequence;
+  delay = w.delay;
+}
+
+-- a source alone, where pixels and packets play no part
+abbrev pub alone : SourceSeen → Window
+alone s = window_of s [] None []
+
+-- the source after an event of the model that asks for no pixels and no packets
+abbrev pub after : (Window → Window) → SourceSeen → SourceSeen
+after event s = source_of s.conn s.wid (event (alone s))

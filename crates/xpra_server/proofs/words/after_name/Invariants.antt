@@ -1,0 +1,8 @@
+-- The words so far and those to come are all that come after the name.
+use Rattle.std.proofs.Common.{◌≡◌, ◌++◌, length}
+use Rattle.std.specs.Vec.Iter.{into_iter_items, into_iter_len}
+use Rattle.xpra_server.proofs.words.after_name.Given as goal
+
+abbrev pub invariant-loop-word : goal.invariant-loop-word
+invariant-loop-word l = (l.words.items ++ into_iter_items l.word-iterator ≡ into_iter_items l.initial.word-iterator)
+    × (into_iter_len l.word-iterator ≡ length (into_iter_items l.word-iterator))
