@@ -92,8 +92,8 @@ module _ (next : ℕ) (log : List Entry) (plan : List Planned) (first : ℕ) (w 
   free : (ss : List ℕ) → AllUnqueued more ss
   free ss = all_numbers (λ (s : ℕ). list_any (is_queueing (λ k. true) s) more ≡ false) ss (unqueued_all more (undrawn-captures first plan))
 
-  now : PointAgrees (record { written = map (written_at x y log) (written_draws log); waiting = map (waiting_at x y log) (draws_of w.packets); hand = map (hand_at x y log) w.jobs ++ new; pending = false; lossy = has w.lossy x y })
-  now = which (cases_Bool (is_empty w.pending))
+  new_point : PointAgrees (record { written = map (written_at x y log) (written_draws log); waiting = map (waiting_at x y log) (draws_of w.packets); hand = map (hand_at x y log) w.jobs ++ new; pending = false; lossy = has w.lossy x y })
+  new_point = which (cases_Bool (is_empty w.pending))
     where
       was : PointAgrees (seen_at x y log w)
       was = agrees.points x y within
@@ -120,7 +120,7 @@ module _ (next : ℕ) (log : List Entry) (plan : List Planned) (first : ℕ) (w 
     hands_stay x y log more (captures_quiet x y first plan) old w.jobs hand_old,
     has-points_within w.desk.wide w.desk.high (λ x y. false) x y within,
   )
-      now
+      new_point
 
 pub agrees_capture : (next : ℕ) (log : List Entry) (plan : List Planned) (first : ℕ) (w : Window) → next ≤ first → IsCaptureOf w plan → Agrees next log w → Agrees (first + length plan) (log ++ captures first plan) (captured plan first w)
 agrees_capture next log plan first w from event agrees = record {

@@ -4,3 +4,8 @@ pub mod Lists
 pub mod Seeing
 pub mod Steps
 pub mod Captures
+pub mod Agreements
+pub mod TimeSteps
+pub mod Reading
+pub mod Turns
+pub mod Examples

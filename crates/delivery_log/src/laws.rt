@@ -1,1 +1,53 @@
-// What is true of every log.
+// What is true of every log of one window of one client.
+ghost use Rattle.delivery_log.specs.Laws.{EventsKeepAgreement, AgreementWaits, OwedIsStale, UnqueuedIsStale, RunsOweWhatIsStale};
+ghost use Rattle.delivery_log.specs.Laws.{EventsKeepTimes, TimesWait, DueAfterTick, ReadingUnloads, FilingEmpties, WritingEmpties};
+ghost use Rattle.delivery_log.specs.Laws.{QuietTurnsRest, ClientsRest};
+
+/// For every log: where it agrees with the window before an event, it does after it, with the event's
+/// entries. A start begins a log that agrees.
+pub fn every_event_keeps_the_agreement()
+    ensures { EventsKeepAgreement }
+{}
+
+/// The agreement stands while other windows take job numbers.
+pub fn agreement_waits()
+    ensures { AgreementWaits }
+{}
+
+/// Where window and log agree a point is owed exactly where it is stale; and it is pending, in the relief
+/// of a job in hand, or lossy, exactly where it is stale once all waiting draws are written.
+pub fn owed_is_stale()
+    ensures written { OwedIsStale }
+    ensures queued { UnqueuedIsStale }
+{}
+
+/// From a window's start on, with the log of what happened, a point is owed exactly where it is stale.
+pub fn runs_owe_what_is_stale()
+    ensures { RunsOweWhatIsStale }
+{}
+
+/// A window's moments stay in the past, and its delay from 10 to 500 milliseconds.
+pub fn every_event_keeps_the_times()
+    ensures event { EventsKeepTimes }
+    ensures later { TimesWait }
+{}
+
+/// What the parts of a quiet turn do: 500 milliseconds make damage and refresh due; a read of all
+/// acknowledgements takes the load of an idle window; results of all jobs leave none in hand; as many
+/// writes as there are packets leave none waiting.
+pub fn parts_of_a_turn()
+    ensures tick { DueAfterTick }
+    ensures read { ReadingUnloads }
+    ensures file { FilingEmpties }
+    ensures write { WritingEmpties }
+{}
+
+/// A quiet turn brings a window one nearer to rest, or leaves it there.
+pub fn quiet_turns_rest()
+    ensures { QuietTurnsRest }
+{}
+
+/// So it does a client with all its windows.
+pub fn clients_rest()
+    ensures { ClientsRest }
+{}

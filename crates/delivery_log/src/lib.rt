@@ -3,3 +3,8 @@
 #![tactic(auto)]
 
 mod laws;
+
+pub use laws::{
+    agreement_waits, clients_rest, every_event_keeps_the_agreement, every_event_keeps_the_times,
+    owed_is_stale, parts_of_a_turn, quiet_turns_rest, runs_owe_what_is_stale,
+};

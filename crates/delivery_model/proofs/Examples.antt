@@ -6,8 +6,8 @@ use Rattle.xp_base.specs.Points.{Rectangle}
 use Rattle.xp_base.specs.Captures.{Captured}
 use Rattle.delivery_model.specs.Grids.{each_point, has, Grid, number, number_in}
 use Rattle.delivery_model.specs.Window.{Window}
-use Rattle.delivery_model.specs.Events.{is_empty, Planned, Event, Start, Paint, Capture, File, Write, Acknowledge, MapWindow, UnmapWindow, Resize, step, run}
-use Rattle.delivery_model.specs.Refusals.{CaptureAnswer, Unmapped, Clean, Early, Congested, Heavy, Spent, Allowed, capture_answer}
+use Rattle.delivery_model.specs.Events.{is_empty, Planned, Event, Start, Paint, Capture, File, Write, Acknowledge, MapWindow, UnmapWindow, Recall, Resize, capture_of, filing_of, Filing, Late, Filed, step, run}
+use Rattle.delivery_model.specs.Refusals.{CaptureAnswer, Unmapped, Clean, Early, Congested, Heavy, Spent, Allowed, capture_answer, last_capture_answer}
 use Rattle.delivery_model.specs.Owed.{owed_count}
 
 -- a run with questions in it
@@ -155,3 +155,32 @@ no_number_left = refl
 just_below : capture_where_there 500 33554431 (2 ^ 62 - 1) (loaded 63 mapped) ≡ Allowed
 unfolding each_point has number number_in is_empty
 just_below = refl
+
+-- in the last captures of a run the same window is not early, and nothing is too heavy
+abbrev last_where_there : ℕ → Option Window → CaptureAnswer
+last_where_there first None = Unmapped
+last_where_there first (Some w) = last_capture_answer first w
+
+last_after_damage : last_where_there 2 (step next (run next None in_hand) (Paint (rect 0 0 1 1) (255 ∷ []) 500)) ≡ Allowed
+unfolding each_point has number number_in is_empty
+last_after_damage = refl
+
+last_without_number : last_where_there (2 ^ 62) (loaded 64 mapped) ≡ Spent
+unfolding each_point has number number_in is_empty
+last_without_number = refl
+
+-- a cancelled job's result is late where captures number upwards, and would be filed where a number comes back
+abbrev filing_there : Option Window → ℕ → Captured → Filing
+filing_there None k capture = Late
+filing_there (Some w) k capture = filing_of (capture_of w.jobs k) capture
+
+abbrev captured_again : ℕ → List Event
+captured_again first = Start (black 1 1) 0 ∷ Write true ∷ MapWindow ∷ Capture (exact (rect 0 0 1 1) ∷ []) 1 ∷ Recall 0 ∷ Capture (exact (rect 0 0 1 1) ∷ []) first ∷ []
+
+cancelled_is_late : filing_there (run next None (captured_again 2)) 1 (result (rect 0 0 1 1) (0 ∷ [])) ≡ Late
+unfolding each_point has number number_in is_empty
+cancelled_is_late = refl
+
+reused_is_filed : filing_there (run next None (captured_again 1)) 1 (result (rect 0 0 1 1) (0 ∷ [])) ≡ Filed
+unfolding each_point has number number_in is_empty
+reused_is_filed = refl

@@ -8,4 +8,5 @@ pub mod Steadies
 pub mod OwedSteps
 pub mod Runs
 pub mod Numberings
+pub mod Leaving
 pub mod Examples

@@ -17,7 +17,7 @@ job_numbers jobs = map (λ (j : Job). j.number) jobs
 abbrev pub draw_numbers : List Packet → List ℕ
 draw_numbers packets = map (λ (d : Draw). d.sequence) (draws_of packets)
 
-abbrev sent_numbers : List Sent → List ℕ
+abbrev pub sent_numbers : List Sent → List ℕ
 sent_numbers sent = map (λ (s : Sent). s.sequence) sent
 
 -- numbers that rise
@@ -112,7 +112,7 @@ numbered_queued next now j jobs w numbered = record {
   room = omega (arith, numbered.room);
 }
 
-numbered_ready : (next now : ℕ) (jobs : List Job) (w : Window) → IsNumbered next (record w { jobs = jobs }) → IsNumbered next (queue_ready now jobs w)
+pub numbered_ready : (next now : ℕ) (jobs : List Job) (w : Window) → IsNumbered next (record w { jobs = jobs }) → IsNumbered next (queue_ready now jobs w)
 numbered_ready next now [] w numbered = numbered
 numbered_ready next now (j ∷ jobs) w numbered = which j.encoded (numbered_ready next now jobs (queued now j w) (numbered_queued next now j jobs w numbered))
   where
@@ -120,7 +120,7 @@ numbered_ready next now (j ∷ jobs) w numbered = which j.encoded (numbered_read
     which true left = left
     which false left = numbered
 
-numbered_filed : (next : ℕ) (f : Filing) (k now : ℕ) (w : Window) → IsNumbered next w → IsNumbered next (filed_as f k now w)
+pub numbered_filed : (next : ℕ) (f : Filing) (k now : ℕ) (w : Window) → IsNumbered next w → IsNumbered next (filed_as f k now w)
 numbered_filed next Late k now w numbered = numbered
 numbered_filed next Foreign k now w numbered = numbered
 numbered_filed next Filed k now w numbered = numbered_ready next now (with_result w.jobs k) w (record {
@@ -145,7 +145,7 @@ numbered_front next lossy_shows (p ∷ packets) w is numbered = record {
     front (WindowResized a b) rises = rises
     front (Draws d) rises = rise_tail w.next_sequence d.sequence (draw_numbers packets) rises
 
-rise_without : (low next : ℕ) (sent : List Sent) (k : ℕ) → Rise low next (sent_numbers sent) → Rise low next (sent_numbers (without_sent sent k))
+pub rise_without : (low next : ℕ) (sent : List Sent) (k : ℕ) → Rise low next (sent_numbers sent) → Rise low next (sent_numbers (without_sent sent k))
 rise_without low next [] k rises = rises
 rise_without low next (s ∷ sent) k rises = which (cases_Bool (nat_eq s.sequence k)) (rise_without (s.sequence + 1) next sent k rises.1)
   where

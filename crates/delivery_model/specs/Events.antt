@@ -117,6 +117,11 @@ abbrev pub queue_ready : ℕ → List Job → Window → Window
 queue_ready now [] w = record w { jobs = [] }
 queue_ready now (j ∷ jobs) w = if j.encoded then queue_ready now jobs (queued now j w) else record w { jobs = j ∷ jobs }
 
+-- how many jobs at the front have their results
+abbrev pub ready_count : List Job → ℕ
+ready_count [] = 0
+ready_count (j ∷ jobs) = if j.encoded then ready_count jobs + 1 else 0
+
 -- what the job in hand with this number captured
 abbrev pub capture_of : List Job → ℕ → Option Captured
 capture_of [] k = None

@@ -1,10 +1,10 @@
 -- What is true of every window of every client, as statements. Each is the contract of a function of `src/laws.rt`.
-use Rattle.std.specs.Prelude.{ℕ, ◌≡◌, ◌≤◌, ◌<◌, Bool, true, false, not, ◌&&◌, ◌||◌, Option, Some, None, List, ◌∷◌, ◌++◌, All}
+use Rattle.std.specs.Prelude.{ℕ, ◌+◌, ◌≡◌, ◌≤◌, ◌<◌, Bool, true, false, not, ◌&&◌, ◌||◌, Option, Some, None, List, [], ◌∷◌, ◌++◌, All}
 use Rattle.xp_base.specs.Points.{is_within}
 use Rattle.xp_base.specs.Captures.{Captured}
 use Rattle.delivery_model.specs.Grids.{has, points, Grid, grid, number, shown_at}
-use Rattle.delivery_model.specs.Window.{Window}
-use Rattle.delivery_model.specs.Events.{is_empty, Event, started, changed, step, run, given_back, jobs_relieve, resized, filing_of, capture_of, Late}
+use Rattle.delivery_model.specs.Window.{Job, Window}
+use Rattle.delivery_model.specs.Events.{is_empty, Event, started, changed, step, run, given_back, jobs_relieve, queued, queue_ready, ready_count, resized, filing_of, capture_of, Late}
 use Rattle.delivery_model.specs.Plans.{IsEvent, AreEvents}
 use Rattle.delivery_model.specs.Owed.{is_owed, owes}
 use Rattle.delivery_model.specs.Changes.{owed_after}
@@ -62,6 +62,21 @@ ResizeClipsLossy = (w h now : ℕ) (old : Window) (x y : ℕ) → has (resized w
 abbrev pub ResizeOwes : Type 0
 ResizeOwes = (w h now : ℕ) (old : Window) (x y : ℕ) → owes (Some (resized w h now old)) x y
     ≡ (is_within w h x y && (owes (Some old) x y || not (is_within old.desk.wide old.desk.high x y)))
+
+-- jobs leave one after another: the first where it has its result, and none where there is none or the first has none
+abbrev pub FirstJobLeaves : Type 0
+FirstJobLeaves = (now : ℕ) (j : Job) (jobs : List Job) (w : Window) → j.encoded ≡ true
+    → queue_ready now jobs (queued now j (record w { jobs = jobs })) ≡ queue_ready now (j ∷ jobs) w
+
+abbrev pub FirstJobStays : Type 0
+FirstJobStays = (now : ℕ) (j : Job) (jobs : List Job) (w : Window) → j.encoded ≡ false → w.jobs ≡ j ∷ jobs → queue_ready now (j ∷ jobs) w ≡ w
+
+abbrev pub NoJobLeaves : Type 0
+NoJobLeaves = (now : ℕ) (w : Window) → w.jobs ≡ [] → queue_ready now [] w ≡ w
+
+-- each that leaves takes a sequence number
+abbrev pub LeavingTakesNumbers : Type 0
+LeavingTakesNumbers = (now : ℕ) (jobs : List Job) (w : Window) → (queue_ready now jobs w).next_sequence ≡ w.next_sequence + ready_count jobs
 
 -- a job in hand after an event, with a number below the next one before it, was in hand with the same capture
 abbrev pub JobWasInHand : Type 0

@@ -6,6 +6,7 @@ ghost use Rattle.delivery_model.specs.Numbers.{IsGone};
 ghost use Rattle.delivery_model.specs.Laws.{EventsKeepTheForm, RunsKeepTheForm, WholeRunsHaveTheForm, FormGivesInvariant, UnowedIsShown};
 ghost use Rattle.delivery_model.specs.Laws.{EventsChangeOwed, StartOwesAll, GivingBackMovesReliefs, ResizePends, ResizeClipsLossy, ResizeOwes};
 ghost use Rattle.delivery_model.specs.Laws.{JobWasInHand, GoneStaysGone, LateWhereGone, EventsKeepNumbering, NumberingWaits, RisingIsDistinct};
+ghost use Rattle.delivery_model.specs.Laws.{FirstJobLeaves, FirstJobStays, NoJobLeaves, LeavingTakesNumbers};
 ghost use Rattle.delivery_model.specs.Laws.{PointsHave, PointsAreAlike, EmptyHasNone, NoneIsEmpty, GridNumbers, GridsAreAlike};
 
 /// Every event keeps the inductive form; the first event of a window, its start, makes it.
@@ -54,6 +55,15 @@ pub fn resize_keeps_the_overlap()
     ensures lossy { ResizeClipsLossy }
     ensures pending { ResizePends }
     ensures owed { ResizeOwes }
+{}
+
+/// Jobs leave the jobs in hand one after another, from the first, while it has its result; each takes a
+/// sequence number.
+pub fn jobs_leave_one_by_one()
+    ensures leaves { FirstJobLeaves }
+    ensures stays { FirstJobStays }
+    ensures none { NoJobLeaves }
+    ensures numbers { LeavingTakesNumbers }
 {}
 
 /// A job in hand after an event, with a number below the next one before it, was in hand with the same capture.
