@@ -139,7 +139,7 @@ pub reading_unloads : (next t : ℕ) (ks : List ℕ) (w : Window) → IsNumbered
 reading_unloads next t ks w numbered idle named =
     let parts = idle_parts w idle in
     let each : All (λ (s : Sent). is_named ks s ≡ true) w.unacknowledged = All-weaker (λ (s : Sent). (is_waiting s.sequence w.packets || is_named ks s) ≡ true) (λ (s : Sent). is_named ks s ≡ true)
-        (λ s is. sym (ap (λ (ps : List Packet). is_waiting s.sequence ps || is_named ks s) parts.1) ∙ is) w.unacknowledged named in
+    (λ s is. sym (ap (λ (ps : List Packet). is_waiting s.sequence ps || is_named ks s) parts.1) ∙ is) w.unacknowledged named in
     let jobs : length (read t ks w).jobs ≡ 0 = ap (λ (js : List Job). length js) ((read_reads t ks w).jobs ∙ parts.0) in
     let sent : length (read t ks w).unacknowledged ≡ 0 = ap (λ (ss : List Sent). length ss) (read_all w.next_sequence t ks w numbered.unacknowledged each) in
     omega (arith, jobs, sent)
