@@ -70,14 +70,15 @@ join_on rects new last start top bottom ext on is =
     let old = old_slice rects last start top bottom ext in
     let slices = front_slice made.front made.ending ext.old last made.parts made.place in
     let parts : new ≡ made.front ++ map (lengthened bottom) made.ending =
-        is ∙ ap (λ (l : List Rectangle). take last l ++ map (lengthened bottom) (drop last l)) old
-        ∙ ap (λ (l : List Rectangle). l ++ map (lengthened bottom) (drop last ext.old)) slices.0
-        ∙ ap (λ (l : List Rectangle). made.front ++ map (lengthened bottom) l) slices.1 in
+    is ∙ ap (λ (l : List Rectangle). take last l ++ map (lengthened bottom) (drop last l)) old
+    ∙ ap (λ (l : List Rectangle). l ++ map (lengthened bottom) (drop last ext.old)) slices.0
+    ∙ ap (λ (l : List Rectangle). made.front ++ map (lengthened bottom) l) slices.1 in
     let all : rects ≡ (made.front ++ made.ending) ++ ext.band = ext.parts ∙ ap (λ (l : List Rectangle). l ++ ext.band) made.parts in
     let joined = joins made.front made.ending ext.band made.top made.bottom top bottom (made_parts ext.old last top made) made.before made.rows made.reach ext.shape ext.some on in
-    let named : IsMade new (length made.front) bottom = subst (λ (l : List Rectangle). IsMade l (length made.front) bottom) (sym parts) joined.made in
-    (subst (λ (n : ℕ). IsMade new n bottom) made.place named,
-    λ x y. ap (λ (l : List Rectangle). has l x y) parts ∙ joined.points x y ∙ ap (λ (l : List Rectangle). has l x y) (sym all))
+    let named : IsMade new (length made.front) bottom = subst (λ (l : List Rectangle). IsMade l (length made.front) bottom) (sym parts) joined.made in (
+      subst (λ (n : ℕ). IsMade new n bottom) made.place named,
+      λ x y. ap (λ (l : List Rectangle). has l x y) parts ∙ joined.points x y ∙ ap (λ (l : List Rectangle). has l x y) (sym all),
+    )
 
 pub ending_above : (rects : List Rectangle) (last start top bottom : ℕ) (ext : IsExtended rects last start top bottom) → Each (λ r. r.y < bottom) (drop last (take start rects))
 ending_above rects last start top bottom ext =

@@ -5,3 +5,8 @@ pub mod Runs
 pub mod RunSteps
 pub mod Makings
 pub mod Joinings
+pub mod Counts
+pub mod Boundings
+pub mod RowSteps
+pub mod BitSteps
+pub mod BitBounds

@@ -51,11 +51,11 @@ made_ends rects last down made =
     rw made.parts (Each-append (EndsBy down) made.front made.ending early late)
 
 -- the rows of sized rectangles above their first row
-row_above : (row : ℕ) (r : Rectangle) → IsRectangle r → EndsBy row r → r.y < row
+pub row_above : (row : ℕ) (r : Rectangle) → IsRectangle r → EndsBy row r → r.y < row
 row_above row r sized ends = omega (arith, sized.high)
 
 -- the points of what was appended do not show above it
-or_false : (b : Bool) → (b || false) ≡ b
+pub or_false : (b : Bool) → (b || false) ≡ b
 or_false true = refl
 or_false false = refl
 
@@ -63,7 +63,7 @@ pub has-append_above : (xs ys : List Rectangle) (row x y : ℕ) → Each (λ s. 
 has-append_above xs ys row x y begins high =
     has-append xs ys x y ∙ ap (λ (b : Bool). has xs x y || b) (has-below row ys x y begins high) ∙ or_false (has xs x y)
 
-anew_above : (xs ys : List Rectangle) (row : ℕ) → Each (λ s. row ≤ s.y) ys → (r : Rectangle) → r.y < row → BeginsAnew (has xs) r → BeginsAnew (has (xs ++ ys)) r
+pub anew_above : (xs ys : List Rectangle) (row : ℕ) → Each (λ s. row ≤ s.y) ys → (r : Rectangle) → r.y < row → BeginsAnew (has xs) r → BeginsAnew (has (xs ++ ys)) r
 anew_above xs ys row begins r high anew above next equal =
     anew above next (λ x. sym (has-append_above xs ys row x above begins (omega arith)) ∙ equal x ∙ has-append_above xs ys row x r.y begins high)
 
@@ -71,7 +71,7 @@ anew_above xs ys row begins r high anew above next equal =
 begins_at_top : (top bottom : ℕ) (band : List Rectangle) → Each (HasRows top bottom) band → Each (λ s. top ≤ s.y) band
 begins_at_top top bottom band rows = Each-weaker (HasRows top bottom) (λ s. top ≤ s.y) (λ s at. omega (arith, at.from_top)) band rows
 
-in_rows_at : (b : Bool) (top bottom y : ℕ) → top ≤ y → y < bottom → (b && in_rows top bottom y) ≡ b
+pub in_rows_at : (b : Bool) (top bottom y : ℕ) → top ≤ y → y < bottom → (b && in_rows top bottom y) ≡ b
 in_rows_at true top bottom y low high = grind (arith, nat_tests)
 in_rows_at false top bottom y low high = refl
 
@@ -114,9 +114,9 @@ other_row_above front (r ∷ ending) rects t e b band top bottom above parts som
           no_row_above b band rects above shape.sized.0.wide (λ x. ap (λ (l : List Rectangle). has l x above) parts ∙ has-above above (front ++ r ∷ ending) x above all (omega arith)) equal
       | inr near ↦
           let same : (x : ℕ) → columns (r ∷ ending) x ≡ columns (b ∷ band) x =
-            λ x. sym (row_of_band front (r ∷ ending) t e x above before rows (omega arith) (omega arith)) ∙ sym (ap (λ (l : List Rectangle). has l x above) parts) ∙ equal x in
+          λ x. sym (row_of_band front (r ∷ ending) t e x above before rows (omega arith) (omega arith)) ∙ sym (ap (λ (l : List Rectangle). has l x above) parts) ∙ equal x in
           let runs = same_runs-columns (r ∷ ending) (b ∷ band) (Gaps-band t e (r ∷ ending) back rows (IsOrdered-back front (r ∷ ending) ordered))
-            (Gaps-band top bottom (b ∷ band) shape.sized shape.rows shape.ordered) same in
+          (Gaps-band top bottom (b ∷ band) shape.sized shape.rows shape.ordered) same in
           let meets : ((r.y + r.h) == top) ≡ true = grind (arith, nat_tests, rows.0.to_bottom) in
           let on : goes_on (r ∷ ending) (b ∷ band) top ≡ true = rw meets runs in
           cc
@@ -129,14 +129,14 @@ made_apart rects last top bottom b band made shape rows apart =
     let ends = made_ends rects last top made in
     let begins = begins_at_top top bottom (b ∷ band) shape.rows in
     let anew : (r : Rectangle) → HasRows top bottom r → BeginsAnew (has (rects ++ b ∷ band)) r =
-        λ r at above next equal.
-        other_row_above made.front made.ending rects made.top made.bottom b band top bottom above made.parts made.some parts.sized parts.ordered made.before made.rows made.reach shape apart
-          (omega (arith, at.from_top))
-          (λ x. sym (has-append_above rects (b ∷ band) top x above begins (omega (arith, at.from_top))) ∙ equal x
-            ∙ row_of_band rects (b ∷ band) top bottom x r.y ends shape.rows (omega (arith, at.from_top)) (omega (arith, at.from_top))) in
+    λ r at above next equal.
+    other_row_above made.front made.ending rects made.top made.bottom b band top bottom above made.parts made.some parts.sized parts.ordered made.before made.rows made.reach shape apart
+    (omega (arith, at.from_top))
+    (λ x. sym (has-append_above rects (b ∷ band) top x above begins (omega (arith, at.from_top))) ∙ equal x
+    ∙ row_of_band rects (b ∷ band) top bottom x r.y ends shape.rows (omega (arith, at.from_top)) (omega (arith, at.from_top))) in
     let high : (r : Rectangle) → IsRectangle r → EndsBy top r → r.y < top = row_above top in
     let early = Each-both (λ (r : Rectangle). r.y < top) (BeginsAnew (has rects)) (BeginsAnew (has (rects ++ b ∷ band))) (anew_above rects (b ∷ band) top begins) rects
-        (Each-both IsRectangle (EndsBy top) (λ (r : Rectangle). r.y < top) high rects made.banded.sized ends) made.banded.joined in
+    (Each-both IsRectangle (EndsBy top) (λ (r : Rectangle). r.y < top) high rects made.banded.sized ends) made.banded.joined in
     let late = Each-weaker (HasRows top bottom) (BeginsAnew (has (rects ++ b ∷ band))) anew (b ∷ band) shape.rows in
     record {
       banded = record {
@@ -174,10 +174,11 @@ before_lengthened t e bottom r s sized at there (inr above) = absurd (omega (ari
 
 ordered_lengthened : (t e bottom : ℕ) (rects : List Rectangle) → Each IsRectangle rects → Each (HasRows t e) rects → IsOrdered rects → IsOrdered (map (lengthened bottom) rects)
 ordered_lengthened t e bottom [] sized rows ordered = tt
-ordered_lengthened t e bottom (r ∷ rects) sized rows ordered =
-    (Each-map (GoesBefore (lengthened bottom r)) (lengthened bottom) rects
+ordered_lengthened t e bottom (r ∷ rects) sized rows ordered = (
+  Each-map (GoesBefore (lengthened bottom r)) (lengthened bottom) rects
       (Each-both (HasRows t e) (GoesBefore r) (λ s. GoesBefore (lengthened bottom r) (lengthened bottom s)) (λ s. before_lengthened t e bottom r s sized.0 rows.0) rects rows.1 ordered.0),
-    ordered_lengthened t e bottom rects sized.1 rows.1 ordered.1)
+  ordered_lengthened t e bottom rects sized.1 rows.1 ordered.1,
+)
 
 -- the last band goes down as far as the one that goes on as it does
 rows_joined : (c : Bool) (t top bottom y : ℕ) → t < top → top < bottom → (c && in_rows t bottom y) ≡ ((c && in_rows t top y) || (c && in_rows top bottom y))
@@ -187,7 +188,7 @@ rows_joined false t top bottom y one other = refl
 pub lengthened_has : (t e bottom : ℕ) (rects : List Rectangle) → t < bottom → Each (HasRows t e) rects → Each (HasRows t bottom) (map (lengthened bottom) rects)
 lengthened_has t e bottom rects high rows =
     Each-map (HasRows t bottom) (lengthened bottom) rects
-      (Each-weaker (HasRows t e) (λ r. HasRows t bottom (lengthened bottom r)) (λ r at. record { from_top = at.from_top; to_bottom = omega (arith, at.from_top) }) rects rows)
+    (Each-weaker (HasRows t e) (λ r. HasRows t bottom (lengthened bottom r)) (λ r at. record { from_top = at.from_top; to_bottom = omega (arith, at.from_top) }) rects rows)
 
 sized_lengthened : (t e bottom : ℕ) → t < bottom → bottom ≤ 4096 → (r : Rectangle) → HasRows t e r → IsRectangle r → IsRectangle (lengthened bottom r)
 sized_lengthened t e bottom high limit r at sized = record { wide = sized.wide; high = omega (arith, at.from_top); across = sized.across; down = omega (arith, at.from_top) }
@@ -204,12 +205,12 @@ joined_points front ending band t e top bottom x y meets one other before rows b
     let long = lengthened_has t e bottom ending (omega arith) rows in
     has-append front (map (lengthened bottom) ending) x y
     ∙ ap (λ (b : Bool). has front x y || b)
-      (has-band t bottom (map (lengthened bottom) ending) x y long
-      ∙ ap (λ (b : Bool). b && in_rows t bottom y) (columns-lengthened bottom ending x)
-      ∙ rows_joined (columns ending x) t top bottom y one other
-      ∙ ap (λ (b : Bool). (columns ending x && in_rows t top y) || (b && in_rows top bottom y)) (same x)
-      ∙ ap (λ (b : Bool). b || (columns band x && in_rows top bottom y)) (sym (has-band t top ending x y rows_top))
-      ∙ ap (λ (b : Bool). has ending x y || b) (sym (has-band top bottom band x y below)))
+    (has-band t bottom (map (lengthened bottom) ending) x y long
+    ∙ ap (λ (b : Bool). b && in_rows t bottom y) (columns-lengthened bottom ending x)
+    ∙ rows_joined (columns ending x) t top bottom y one other
+    ∙ ap (λ (b : Bool). (columns ending x && in_rows t top y) || (b && in_rows top bottom y)) (same x)
+    ∙ ap (λ (b : Bool). b || (columns band x && in_rows top bottom y)) (sym (has-band t top ending x y rows_top))
+    ∙ ap (λ (b : Bool). has ending x y || b) (sym (has-band top bottom band x y below)))
     ∙ or-assoc (has front x y) (has ending x y) (has band x y)
     ∙ ap (λ (b : Bool). b || has band x y) (sym (has-append front ending x y))
     ∙ sym (has-append (front ++ ending) band x y)
@@ -226,11 +227,11 @@ anew_lengthened front ending t e bottom short long before rows s at anew above n
     let rows_long = lengthened_has t e bottom ending long rows in
     let begin = begins_at_top t bottom (map (lengthened bottom) ending) rows_long in
     anew above next (λ x.
-      same_above front ending (map (lengthened bottom) ending) t x above begins begin (omega (arith, at.from_top))
-      ∙ equal x
-      ∙ row_of_band front (map (lengthened bottom) ending) t bottom x s.y before rows_long (omega (arith, at.from_top)) (omega (arith, at.from_top))
-      ∙ columns-lengthened bottom ending x
-      ∙ sym (row_of_band front ending t e x s.y before rows (omega (arith, at.from_top)) (omega (arith, at.from_top))))
+    same_above front ending (map (lengthened bottom) ending) t x above begins begin (omega (arith, at.from_top))
+    ∙ equal x
+    ∙ row_of_band front (map (lengthened bottom) ending) t bottom x s.y before rows_long (omega (arith, at.from_top)) (omega (arith, at.from_top))
+    ∙ columns-lengthened bottom ending x
+    ∙ sym (row_of_band front ending t e x s.y before rows (omega (arith, at.from_top)) (omega (arith, at.from_top))))
 
 -- the parts of a list that goes on as its last band does
 pub made_joined : (front : List Rectangle) (r : Rectangle) (rest : List Rectangle) (t e bottom : ℕ) → t < bottom → bottom ≤ 4096 → IsBanded (front ++ r ∷ rest)
@@ -245,17 +246,17 @@ made_joined front r rest t e bottom high limit banded before rows =
     let begins = begins_at_top t e ending rows in
     let begin = begins_at_top t bottom long rows_long in
     let early = Each-both (λ (s : Rectangle). s.y < t) (BeginsAnew (has (front ++ ending))) (BeginsAnew (has (front ++ long))) (anew_joined front ending long t begins begin) front
-        (Each-both IsRectangle (EndsBy t) (λ (s : Rectangle). s.y < t) (row_above t) front sized_front before)
-        (Each-front (BeginsAnew (has (front ++ ending))) front ending banded.joined) in
+    (Each-both IsRectangle (EndsBy t) (λ (s : Rectangle). s.y < t) (row_above t) front sized_front before)
+    (Each-front (BeginsAnew (has (front ++ ending))) front ending banded.joined) in
     let late = Each-map (BeginsAnew (has (front ++ long))) (lengthened bottom) ending
-        (Each-both (HasRows t e) (BeginsAnew (has (front ++ ending))) (λ s. BeginsAnew (has (front ++ long)) (lengthened bottom s)) (anew_lengthened front ending t e bottom short high before rows) ending
-          rows (Each-back (BeginsAnew (has (front ++ ending))) front ending banded.joined)) in
+    (Each-both (HasRows t e) (BeginsAnew (has (front ++ ending))) (λ s. BeginsAnew (has (front ++ long)) (lengthened bottom s)) (anew_lengthened front ending t e bottom short high before rows) ending
+    rows (Each-back (BeginsAnew (has (front ++ ending))) front ending banded.joined)) in
     record {
       banded = record {
         sized = Each-append IsRectangle front long sized_front
-          (Each-map IsRectangle (lengthened bottom) ending (Each-both (HasRows t e) IsRectangle (λ s. IsRectangle (lengthened bottom s)) (sized_lengthened t e bottom high limit) ending rows sized_back));
+            (Each-map IsRectangle (lengthened bottom) ending (Each-both (HasRows t e) IsRectangle (λ s. IsRectangle (lengthened bottom s)) (sized_lengthened t e bottom high limit) ending rows sized_back));
         ordered = IsOrdered-append front long (IsOrdered-front front ending banded.ordered)
-          (ordered_lengthened t e bottom ending sized_back rows (IsOrdered-back front ending banded.ordered)) (before_by_row t front long before begin);
+            (ordered_lengthened t e bottom ending sized_back rows (IsOrdered-back front ending banded.ordered)) (before_by_row t front long before begin);
         joined = Each-append (BeginsAnew (has (front ++ long))) front long early late;
         points = λ x y. refl;
       };

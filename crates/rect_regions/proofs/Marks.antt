@@ -38,7 +38,7 @@ unfolding marks_of
 get_or-marks_of w h test x y across down =
     let low : y * w + x < w * h = mul-add-lt y w x h down across in
     let there : get_or (marks_of w h test) (y * w + x) false ≡ test ((y * w + x) % w) ((y * w + x) / w) =
-        get_or-map-range_with_len (λ k. test (k % w) (k / w)) 0 (w * h) (y * w + x) (y * w + x) false low (omega arith) in
+    get_or-map-range_with_len (λ k. test (k % w) (k / w)) 0 (w * h) (y * w + x) (y * w + x) false low (omega arith) in
     there ∙ (ap (λ (k : ℕ). test k ((y * w + x) / w)) (mod-mul-add y w x across) ∙ ap (test x) (div-mul-add y w x across))
 
 -- made by a test whose points are all within, the marks have the test's points

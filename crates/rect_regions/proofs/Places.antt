@@ -33,7 +33,7 @@ lengthen_more f from i now init d r high low sized done rest is =
     let cut : length (take i init) ≡ i = length-take-le i init (omega arith) in
     let within : from ≤ length (take i init) = omega arith in
     let parts : drop from (take (i + 1) init) ≡ drop from (take i init) ++ get_or init i d ∷ [] =
-        ap (drop from) (take_more init i d here) ∙ drop-append-le from (take i init) (get_or init i d ∷ []) within in
+    ap (drop from) (take_more init i d here) ∙ drop-append-le from (take i init) (get_or init i d ∷ []) within in
     take_more_set now i (f r) low
     ∙ ap (λ (xs : List Rectangle). xs ++ f r ∷ []) done
     ∙ append_assoc (take from init) (map f (drop from (take i init))) (f r ∷ [])

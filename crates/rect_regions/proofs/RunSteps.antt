@@ -39,7 +39,7 @@ runs_on old new top bottom row limit x until later on runs = record {
   shape = runs.shape;
   ends = runs.ends;
   same = runs.same;
-  under_way = λ c low high. elim (cases_lt c x) [ | inl near ↦ runs.under_way c low near | inr far ↦ on c far high ];
+  under_way = λ c low high. elim (cases_lt c x) [ inl near ↦ runs.under_way c low near | inr far ↦ on c far high ];
   ahead = omega (arith, runs.ahead);
 }
 
@@ -84,12 +84,12 @@ run_shape top bottom limit x band rows low some within shape ends =
     let r = run_to top bottom limit x in
     let place : HasRows top bottom r = record { from_top = refl; to_bottom = omega arith } in
     let after : (s : Rectangle) → HasRows top bottom s → s.x + s.w < limit → Each (GoesBefore s) (r ∷ []) =
-        λ s at end. (inl (sym at.from_top, omega (arith, at.from_top, at.to_bottom), end), tt) in
+    λ s at end. (inl (sym at.from_top, omega (arith, at.from_top, at.to_bottom), end), tt) in
     record {
       sized = Each-append IsRectangle band (r ∷ []) shape.sized (record { wide = omega arith; high = omega arith; across = omega arith; down = omega arith }, tt);
       rows = Each-append (HasRows top bottom) band (r ∷ []) shape.rows (place, tt);
       ordered = IsOrdered-append band (r ∷ []) shape.ordered (tt, tt)
-        (Each-both (HasRows top bottom) (λ (s : Rectangle). s.x + s.w < limit) (λ s. Each (GoesBefore s) (r ∷ [])) after band shape.rows ends);
+          (Each-both (HasRows top bottom) (λ (s : Rectangle). s.x + s.w < limit) (λ s. Each (GoesBefore s) (r ∷ [])) after band shape.rows ends);
     }
 
 pub runs_closed : (old new : List Rectangle) (top bottom : ℕ) (row : ℕ → Bool) (limit x until : ℕ) → top < bottom → bottom ≤ 4096 → limit < x → x ≤ 4096 → x < until
@@ -102,9 +102,9 @@ runs_closed old new top bottom row limit x until rows low some within later off 
       parts = ap (λ (xs : List Rectangle). xs ++ r ∷ []) runs.parts ∙ append_assoc old runs.band (r ∷ []);
       shape = run_shape top bottom limit x runs.band rows low some within runs.shape runs.ends;
       ends = Each-append (λ (s : Rectangle). s.x + s.w < until) runs.band (r ∷ [])
-        (Each-weaker (λ (s : Rectangle). s.x + s.w < limit) (λ (s : Rectangle). s.x + s.w < until) (λ s h. omega arith) runs.band runs.ends) (omega arith, tt);
+          (Each-weaker (λ (s : Rectangle). s.x + s.w < limit) (λ (s : Rectangle). s.x + s.w < until) (λ s h. omega arith) runs.band runs.ends) (omega arith, tt);
       same = λ c. columns-append runs.band (r ∷ []) c ∙ ap (λ (b : Bool). b || (in_columns r c || false)) (runs.same c)
-        ∙ run_columns (row c) top bottom limit x until c some later (runs.under_way c) (off c);
+          ∙ run_columns (row c) top bottom limit x until c some later (runs.under_way c) (off c);
       under_way = λ c early late. absurd (omega arith);
       ahead = omega arith;
     }
@@ -140,7 +140,7 @@ pub runs_end : (old new : List Rectangle) (top bottom : ℕ) (row : ℕ → Bool
     → RunsSoFar old new top bottom row limit x → AppendsBand old (with_run new top bottom limit x) top bottom row
 runs_end old new top bottom row limit x rows low within off runs =
     runs_done old (with_run new top bottom limit x) top bottom row (x + 1) (λ c far. off c (omega arith))
-        (runs_ended old new top bottom row limit x (x + 1) rows low within (omega arith) (λ c far near. off c far) runs)
+    (runs_ended old new top bottom row limit x (x + 1) rows low within (omega arith) (λ c far near. off c far) runs)
 
 -- the one column from x to before x + 1
 pub at_one : (row : ℕ → Bool) (b : Bool) (x : ℕ) → row x ≡ b → (c : ℕ) → x ≤ c → c < x + 1 → row c ≡ b

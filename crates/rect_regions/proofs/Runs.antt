@@ -20,7 +20,7 @@ columns-same_runs (r ∷ one) (s ∷ other) x same =
     let parts = and_parts _ _ same in
     ap (λ (b : Bool). b || columns one x) (same_columns r s x parts.0) ∙ ap (λ (b : Bool). in_columns s x || b) (columns-same_runs one other x parts.1)
 
--- rectangles with gaps between them, from left to right
+-- rectangles from left to right with gaps between them
 abbrev pub Gaps : List Rectangle → Type 0
 Gaps [] = Unit {0}
 Gaps (r ∷ rects) = (1 ≤ r.w) × Each (λ s. r.x + r.w < s.x) rects × Gaps rects
@@ -34,10 +34,9 @@ pub first_column : (r : Rectangle) (rest : Bool) → 1 ≤ r.w → (in_columns r
 first_column r rest wide = grind (arith, nat_tests)
 
 -- what begins behind a rectangle has none of its columns
-past_gap : (r : Rectangle) (rects : List Rectangle) (x : ℕ) → Each (λ s. r.x + r.w < s.x) rects → x ≤ r.x + r.w → columns rects x ≡ false
+pub past_gap : (r : Rectangle) (rects : List Rectangle) (x : ℕ) → Each (λ s. r.x + r.w < s.x) rects → x ≤ r.x + r.w → columns rects x ≡ false
 past_gap r rects x after near =
     columns-left (r.x + r.w + 1) rects x (Each-weaker (λ (s : Rectangle). r.x + r.w < s.x) (λ (s : Rectangle). r.x + r.w + 1 ≤ s.x) (λ s h. omega arith) rects after) (omega arith)
-
 
 -- lists of other lengths have not the same runs
 and_false : (b c : Bool) → c ≡ false → (b && c) ≡ false

@@ -9,13 +9,7 @@ use xp_base::{NoMemory, Rect};
 
 /// Joins the band from `start` on, of the rows `top` to `bottom - 1`, to the one from `last` on, if it
 /// stands right below it and has the same runs. The answer is where the last band now begins.
-pub fn join_band(
-    rects: &mut Vec<Rect>,
-    last: usize,
-    start: usize,
-    top: u32,
-    bottom: u32,
-) -> usize
+pub fn join_band(rects: &mut Vec<Rect>, last: usize, start: usize, top: u32, bottom: u32) -> usize
     requires { IsExtended rects.old.items last start top bottom }
     ensures made { IsMade rects.new.items result bottom }
     ensures points { SamePoints (has rects.new.items) (has rects.old.items) }

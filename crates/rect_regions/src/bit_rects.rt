@@ -3,9 +3,9 @@ ghost use Rattle.std.specs.Prelude.{◌≡◌, ◌≤◌, ◌<◌, ◌+◌, ◌-
 ghost use Rattle.rect_regions.specs.BitRows.{has_mark};
 ghost use Rattle.rect_regions.specs.Making.{AppendsBand};
 
+use crate::bands::end_run;
 use crate::bit_region::BitRegion;
 use crate::bit_rows::PointTest;
-use crate::bands::end_run;
 use xp_base::{NoMemory, Rect};
 
 /// Appends the runs of a row, each as a rectangle.

@@ -4,12 +4,11 @@ ghost use Rattle.xp_base.specs.Points.{is_in};
 ghost use Rattle.rect_regions.specs.PointSets.{SamePoints, count_row};
 ghost use Rattle.rect_regions.specs.Combinations.{combined};
 ghost use Rattle.rect_regions.specs.BitRows.{IsBitRows, has_mark, IsSize, AllWithin};
-ghost use Rattle.rect_regions.specs.Bounding.{with_point};
 
 use crate::bands::join_band;
 use crate::bit_rects::append_row;
 use crate::bit_rows::{PointTest, marks_of};
-use crate::bounding::bounding;
+use crate::bounding::with_point;
 use crate::combination::Combination;
 use crate::operations::Points;
 use std::alloc::Global;
@@ -36,6 +35,7 @@ impl Model for BitRegion {
 }
 
 /// What is to become of the points of the one set and of those that another test has.
+#[derive(Drop)]
 struct Combined<'a, T: PointTest> {
     combination: Combination,
     one: &'a BitRegion,
@@ -77,6 +77,14 @@ impl BitRegion {
         self.wide
     }
 
+    /// How many rows are kept.
+    pub(crate) fn high(&self) -> u32
+        ensures value { result ≡ self.now.high }
+        ensures kept { IsBitRows self.now }
+    {
+        self.high
+    }
+
     /// The points of this set and of others, so combined, in so many columns and rows, which hold them
     /// all.
     fn combined<T: PointTest>(
@@ -100,12 +108,14 @@ impl BitRegion {
     }
 
     /// How many points a row has.
+    #[tactic(auto, using(crate::proofs::Counts::sum_below_none, crate::proofs::Counts::sum_below_more, crate::proofs::Counts::sum_below_few))]
     fn count_row(&self, y: u32) -> u32
         ensures value { result ≡ count_row self.now.wide (has_mark self.now) y }
         ensures few { result ≤ 4096 }
     {
+        let wide = self.wide();
         let mut count = 0;
-        for x in 0..self.wide {
+        for x in 0..wide {
             if self.test(x, y) {
                 count += 1;
             }
@@ -133,19 +143,23 @@ impl Points for BitRegion {
         self.test(x, y)
     }
 
+    #[tactic(auto, using(crate::proofs::Counts::sum_below_none, crate::proofs::Counts::sum_below_more))]
     fn count(&self) -> u64 {
+        let high = self.high();
         let mut count = 0;
-        for y in 0..self.high {
+        for y in 0..high {
             count += u64::from(self.count_row(y));
         }
         count
     }
 
     fn bounds(&self) -> Option<Rect> {
+        let wide = self.wide();
+        let high = self.high();
         let mut bounds = None;
-        for k in 0..self.wide * self.high {
-            let x = k % self.wide;
-            let y = k / self.wide;
+        for k in 0..wide * high {
+            let x = k % wide;
+            let y = k / wide;
             if self.test(x, y) {
                 bounds = Some(with_point(bounds, x, y));
             }
@@ -160,21 +174,29 @@ impl Points for BitRegion {
     }
 
     fn union_rect(&mut self, r: Rect) -> Result<(), NoMemory> {
-        let wide = self.wide.max(r.x + r.w);
-        let high = self.high.max(r.y + r.h);
+        let own_wide = self.wide();
+        let own_high = self.high();
+        let wide = own_wide.max(r.x + r.w);
+        let high = own_high.max(r.y + r.h);
         *self = self.combined(Combination::Union, &r, wide, high)?;
         Ok(())
     }
 
     fn union(&mut self, o: &BitRegion) -> Result<(), NoMemory> {
-        let wide = self.wide.max(o.wide);
-        let high = self.high.max(o.high);
+        let own_wide = self.wide();
+        let own_high = self.high();
+        let other_wide = o.wide();
+        let other_high = o.high();
+        let wide = own_wide.max(other_wide);
+        let high = own_high.max(other_high);
         *self = self.combined(Combination::Union, o, wide, high)?;
         Ok(())
     }
 
     fn subtract_rect(&mut self, r: Rect) -> Result<(), NoMemory> {
-        *self = self.combined(Combination::Difference, &r, self.wide, self.high)?;
+        let wide = self.wide();
+        let high = self.high();
+        *self = self.combined(Combination::Difference, &r, wide, high)?;
         Ok(())
     }
 
@@ -193,30 +215,21 @@ impl Points for BitRegion {
     }
 
     fn part(&self, r: Rect) -> Result<BitRegion, NoMemory> {
-        self.combined(Combination::Overlap, &r, self.wide, self.high)
+        let wide = self.wide();
+        let high = self.high();
+        self.combined(Combination::Overlap, &r, wide, high)
     }
 
     fn rects(&self) -> Result<Rects, NoMemory> {
+        let high = self.high();
         let mut rects = Vec::new(*self.marks.allocator());
         let mut last = 0;
-        for y in 0..self.high {
+        for y in 0..high {
             let start = rects.len();
             append_row(&mut rects, self, y)?;
             last = join_band(&mut rects, last, start, y, y + 1);
         }
-        Ok(Rects::new(rects))
-    }
-}
-
-/// The least rectangle with those points and one more.
-fn with_point(bounds: Option<Rect>, x: u32, y: u32) -> Rect
-    requires across { x < 4096 }
-    requires down { y < 4096 }
-    ensures { result ≡ with_point bounds x y }
-{
-    let point = Rect { x, y, w: 1, h: 1 };
-    match bounds {
-        Some(r) => bounding(r, point),
-        None => point,
+        let list = Rects::new(rects);
+        Ok(list)
     }
 }

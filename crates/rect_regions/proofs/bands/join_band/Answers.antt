@@ -16,7 +16,7 @@ asked rects one other last start top bottom b answer ext same alike is at =
 pub returns-then-not-goes_on-clause-made : goal.returns-then-not-goes_on-clause-made
 returns-then-not-goes_on-clause-made c =
     join_apart c.args.rects.now.items c.args.last c.args.start c.args.top c.args.bottom c.requires (λ e. c.if-start-len.false (omega (arith, e, c.len.ensures, c.args.rects.now.ok.0)))
-      (asked c.args.rects.now.items c.deref.result.now c.deref-2.result.now c.args.last c.args.start c.args.top c.args.bottom false c.goes_on.result c.requires c.deref.ensures.value c.deref-2.ensures.value c.goes_on.ensures c.if-not-goes_on.true)
+    (asked c.args.rects.now.items c.deref.result.now c.deref-2.result.now c.args.last c.args.start c.args.top c.args.bottom false c.goes_on.result c.requires c.deref.ensures.value c.deref-2.ensures.value c.goes_on.ensures c.if-not-goes_on.true)
 
 pub lengthen-requires-clause-above : goal.lengthen-requires-clause-above
 lengthen-requires-clause-above c = rw c.truncate.ensures.items (ending_above c.args.rects.now.items c.args.last c.args.start c.args.top c.args.bottom c.requires)
@@ -24,11 +24,11 @@ lengthen-requires-clause-above c = rw c.truncate.ensures.items (ending_above c.a
 pub returns-clause-made : goal.returns-clause-made
 returns-clause-made c =
     (join_on c.args.rects.now.items c.lengthen.new.rects.items c.args.last c.args.start c.args.top c.args.bottom c.requires
-      (asked c.args.rects.now.items c.deref.result.now c.deref-2.result.now c.args.last c.args.start c.args.top c.args.bottom true c.goes_on.result c.requires c.deref.ensures.value c.deref-2.ensures.value c.goes_on.ensures c.if-not-goes_on.false)
-      (rw (← c.truncate.ensures.items) c.lengthen.ensures)).0
+    (asked c.args.rects.now.items c.deref.result.now c.deref-2.result.now c.args.last c.args.start c.args.top c.args.bottom true c.goes_on.result c.requires c.deref.ensures.value c.deref-2.ensures.value c.goes_on.ensures c.if-not-goes_on.false)
+    (rw (← c.truncate.ensures.items) c.lengthen.ensures)).0
 
 pub returns-clause-points : goal.returns-clause-points
 returns-clause-points c =
     (join_on c.args.rects.now.items c.lengthen.new.rects.items c.args.last c.args.start c.args.top c.args.bottom c.requires
-      (asked c.args.rects.now.items c.deref.result.now c.deref-2.result.now c.args.last c.args.start c.args.top c.args.bottom true c.goes_on.result c.requires c.deref.ensures.value c.deref-2.ensures.value c.goes_on.ensures c.if-not-goes_on.false)
-      (rw (← c.truncate.ensures.items) c.lengthen.ensures)).1
+    (asked c.args.rects.now.items c.deref.result.now c.deref-2.result.now c.args.last c.args.start c.args.top c.args.bottom true c.goes_on.result c.requires c.deref.ensures.value c.deref-2.ensures.value c.goes_on.ensures c.if-not-goes_on.false)
+    (rw (← c.truncate.ensures.items) c.lengthen.ensures)).1

@@ -18,7 +18,7 @@ lengthened-requires-clause-above c =
     let at : c.loop-i.i < length init = omega (arith, c.loop-i.invariant.sized) in
     let low : c.loop-i.i < length c.loop-i.rects.items = omega (arith, c.loop-i.invariant.sized) in
     let is : c.index-r.result.now ≡ get_or init c.loop-i.i c.index-r.result.now =
-        c.index-r.ensures ∙ same_next c.loop-i.rects.items init c.loop-i.i c.index-r.result.now low c.loop-i.invariant.sized c.loop-i.invariant.rest in
+    c.index-r.ensures ∙ same_next c.loop-i.rects.items init c.loop-i.i c.index-r.result.now low c.loop-i.invariant.sized c.loop-i.invariant.rest in
     rw is (Each-drop_at (λ (r : Rectangle). r.y < c.args.bottom) init c.args.from c.loop-i.i c.index-r.result.now c.requires.above (omega arith) at)
 
 pub loop-i-preserved : goal.loop-i-preserved
