@@ -1,25 +1,24 @@
 -- Every event keeps the agreement, and so does every list of events; where it stands, owed is stale.
-use Rattle.std.proofs.Common.{◌≡◌, ◌⊎◌, inl, inr, ℕ, ◌+◌, ◌≤◌, Bool, true, false, not, ◌&&◌, ◌||◌, List, [], ◌∷◌, ◌++◌, Option, Some, None, map, length, refl, sym, ap, ◌∙◌, subst, arith}
+use Rattle.std.proofs.Common.{◌≡◌, ◌⊎◌, inl, inr, ℕ, ◌≤◌, Bool, true, false, not, ◌&&◌, ◌||◌, List, [], ◌∷◌, ◌++◌, Option, Some, None, map, refl, ap, ◌∙◌, subst}
 use Rattle.std.specs.List.{list_any}
 use Rattle.std.proofs.lemmas.Bool.{cases_Bool}
-use Rattle.std.proofs.lemmas.Bool.Decides.{nat_tests}
 use Rattle.std.proofs.lemmas.List.{map-append}
 use Rattle.xp_base.specs.Points.{Rectangle, is_within, whole}
-use Rattle.delivery_model.specs.Grids.{has, Grid}
+use Rattle.delivery_model.specs.Grids.{has}
 use Rattle.delivery_model.specs.Window.{Draw, Window}
 use Rattle.delivery_model.specs.Events.{painted, rect_sent, without_sent, counted, acknowledged_as, filing_of, capture_of, Event, Start, Paint, Capture, File, Write, Acknowledge, MapWindow, UnmapWindow, Recall, Resize, BufferRefresh, Close, changed, step, run}
 use Rattle.delivery_model.specs.Plans.{IsEvent}
 use Rattle.delivery_model.specs.Numbers.{NumbersFrom, next_after}
 use Rattle.delivery_model.specs.Kept.{IsKept}
 use Rattle.delivery_model.specs.Laws.{KeptWhereThere}
-use Rattle.delivery_model.specs.Owed.{packets_relieve, is_owed, owes}
+use Rattle.delivery_model.specs.Owed.{owes}
 use Rattle.delivery_model.specs.Events.{jobs_relieve}
 use Rattle.delivery_model.specs.Invariant.{draws_of}
 use Rattle.delivery_model.proofs.Runs.{kept_step}
 use Rattle.delivery_model.proofs.Numberings.{rise_later}
-use Rattle.delivery_log.specs.Log.{Entry, Damaged, clipped, acknowledgements, entries, log_after, log_of}
-use Rattle.delivery_log.specs.Stale.{are_repairing, is_repair, is_lossy_over, is_stale, is_stale_queued, written_draws, queued_draws}
-use Rattle.delivery_log.specs.Traces.{Trace, written_at, waiting_at, hand_at, seen_at, any_lossy, is_repaired}
+use Rattle.delivery_log.specs.Log.{Entry, acknowledgements, entries, log_after, log_of}
+use Rattle.delivery_log.specs.Stale.{are_repairing, is_lossy_over, is_stale, is_stale_queued, written_draws, queued_draws}
+use Rattle.delivery_log.specs.Traces.{Trace, written_at, waiting_at, seen_at, any_lossy, is_repaired}
 use Rattle.delivery_log.specs.Agreement.{captured_jobs, Agrees, AgreesWhereThere}
 use Rattle.delivery_log.specs.Laws.{AreLogged}
 use Rattle.delivery_log.proofs.Traces.{owed_unless_repaired}

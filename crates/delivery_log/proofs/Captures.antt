@@ -1,32 +1,31 @@
 -- A capture and the filing of a result keep the agreement of a window and its log.
-use Rattle.std.proofs.Common.{◌≡◌, ◌≢◌, ◌⊎◌, inl, inr, ℕ, zero, suc, ◌+◌, ◌-◌, ◌<◌, ◌≤◌, Bool, true, false, not, ◌&&◌, ◌||◌, List, [], ◌∷◌, ◌++◌, Option, Some, None, map, length, cond, refl, sym, ap, ◌∙◌, subst, arith, append_assoc, append-nil}
+use Rattle.std.proofs.Common.{◌≡◌, ◌⊎◌, inl, inr, ℕ, ◌+◌, ◌<◌, ◌≤◌, Bool, true, false, not, ◌&&◌, ◌||◌, List, [], ◌∷◌, ◌++◌, map, length, cond, refl, sym, ap, ◌∙◌, subst, arith, append_assoc, append-nil}
 use Rattle.std.specs.Prelude.{All, nat_eq, nat_lt}
 use Rattle.std.specs.List.{list_any}
-use Rattle.std.proofs.lemmas.Bool.{cases_Bool, and_parts, or_parts, eqb-true, eq-eqb, false_from_ne_true, false≢true}
+use Rattle.std.proofs.lemmas.Bool.{cases_Bool, or_parts, false≢true}
 use Rattle.std.proofs.lemmas.Bool.Decides.{nat_tests}
 use Rattle.std.proofs.lemmas.List.{map-append}
-use Rattle.std.proofs.lemmas.List.Elements.{All-nil, All-cons, All-head, All-tail, All-weaker}
+use Rattle.std.proofs.lemmas.List.Elements.{All-head, All-weaker}
 use Rattle.xp_base.specs.declared.coding.Coding.{Coding}
 use Rattle.xp_base.specs.declared.coding.Coding.TheVariants as C
-use Rattle.xp_base.specs.Points.{Rectangle, is_in, is_within}
+use Rattle.xp_base.specs.Points.{is_in, is_within}
 use Rattle.delivery_model.specs.Grids.{Points, has}
-use Rattle.delivery_model.specs.Window.{Job, Draw, Packet, Draws, Window}
+use Rattle.delivery_model.specs.Window.{Job, Draw, Draws, Window}
 use Rattle.delivery_model.specs.Events.{is_empty, Planned, region_taken, jobs_of, captured, queued, queue_ready, with_result, relief_queued, lossy_queued, same_coding, Filing, Late, Foreign, Filed, filed_as}
 use Rattle.delivery_model.specs.Invariant.{draws_of}
 use Rattle.delivery_model.specs.Kept.{JobFits, IsKept}
-use Rattle.delivery_model.specs.Plans.{IsPlan, IsCaptureOf}
+use Rattle.delivery_model.specs.Plans.{IsCaptureOf}
 use Rattle.delivery_model.specs.Refusals.{is_busy, is_clean}
 use Rattle.delivery_model.specs.Point.{is_exact}
-use Rattle.delivery_model.specs.Numbers.{Rise}
 use Rattle.delivery_model.proofs.Grids.{has-points_within, has-empty}
 use Rattle.delivery_model.proofs.Numberings.{draws-append, rise_bound}
 use Rattle.delivery_model.proofs.JobSteps.{jobs_of-relieve, has-relief_queued, has-lossy_queued, keeps_queued, keeps_result}
 use Rattle.delivery_log.specs.Log.{Entry, DrawQueued, captures, queues, filings}
-use Rattle.delivery_log.specs.Stale.{is_origin, since_origin, is_capture, is_queueing, is_repair, is_lossy_over, queued_draws, written_draws}
-use Rattle.delivery_log.specs.Traces.{Trace, Hand, written_at, waiting_at, hand_at, seen_at, PointAgrees, any_hand_relieves, any_before, any_after_relieves, NoneRelievesBehind}
-use Rattle.delivery_log.specs.Agreement.{Recorded, recorded, captured_jobs, queued_jobs, JobsAgree, DrawsAgree, Agrees}
-use Rattle.delivery_log.proofs.Traces.{agrees_captured, agrees_refreshed, agrees_queued, relief_at, lossy_at}
-use Rattle.delivery_log.proofs.Logs.{any_entry-append, since_origin-append, repair_queued, lossy_queued as lossy_drawn}
+use Rattle.delivery_log.specs.Stale.{since_origin, is_capture, is_queueing, is_repair, is_lossy_over, queued_draws, written_draws}
+use Rattle.delivery_log.specs.Traces.{Trace, Hand, written_at, waiting_at, hand_at, seen_at, PointAgrees, any_hand_relieves, any_before, NoneRelievesBehind}
+use Rattle.delivery_log.specs.Agreement.{recorded, queued_jobs, Agrees}
+use Rattle.delivery_log.proofs.Traces.{agrees_captured, agrees_refreshed, agrees_queued}
+use Rattle.delivery_log.proofs.Logs.{since_origin-append, repair_queued, lossy_queued as lossy_drawn}
 use Rattle.delivery_log.proofs.Lists.{hand_numbers, written-append, jobs_captured, jobs_queued, jobs_marked, draws_stay, draws_queued, undrawn-captures, unwritten-captures, captured_there}
 use Rattle.delivery_log.proofs.Seeing.{AllUnqueued, AllUncaptured, unqueued_all, all_numbers, all_parts, below_next, other_numbers, queueing_new, written_stay, waiting_stay, hands_stay, hands_relieve, OnlyAs, only_as, covering_only, covering_since, captures_quiet, captures_new, captures_after, after_relieves, captures_apart}
 use Rattle.delivery_log.proofs.Steps.{agrees_same, sequences_of}

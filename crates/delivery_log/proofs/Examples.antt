@@ -1,7 +1,7 @@
 -- Whole runs of small windows, computed: what is owed, what the log alone calls stale, and how far from rest the window is; and
 -- readings that are near to these and wrong.
-use Rattle.std.proofs.Common.{◌≡◌, ℕ, ◌+◌, ◌-◌, ◌*◌, Bool, true, false, List, [], ◌∷◌, Option, Some, None, refl}
-use Rattle.std.specs.Prelude.{◌^◌, replicate}
+use Rattle.std.proofs.Common.{◌≡◌, ℕ, ◌+◌, ◌*◌, Bool, true, false, List, [], ◌∷◌, Option, Some, None, refl}
+use Rattle.std.specs.Prelude.{replicate}
 use Rattle.std.specs.List.{count_by}
 use Rattle.xp_base.specs.declared.coding.Coding.TheVariants as C
 use Rattle.xp_base.specs.Points.{Rectangle}
@@ -12,7 +12,7 @@ use Rattle.delivery_model.specs.Events.{is_empty, Planned, Event, Start, Paint, 
 use Rattle.delivery_model.specs.Owed.{owed_count}
 use Rattle.delivery_log.specs.Log.{Entry, Fresh, Kept, Damaged, JobCaptured, DrawQueued, DrawWritten, log_after, log_of}
 use Rattle.delivery_log.specs.Stale.{is_stale, is_stale_queued}
-use Rattle.delivery_log.specs.Rest.{rest, rest_of, Turn, Result, turned}
+use Rattle.delivery_log.specs.Rest.{rest, Turn, turned}
 
 -- a run with questions in it
 data Line : Type 0 where

@@ -1,17 +1,16 @@
 -- The parts of the agreement that speak of jobs and draws, over lists.
-use Rattle.std.proofs.Common.{◌≡◌, ◌⊎◌, inl, inr, ℕ, ◌+◌, ◌<◌, ◌≤◌, Bool, true, false, ◌&&◌, ◌||◌, List, [], ◌∷◌, ◌++◌, map, length, refl, sym, ap, ◌∙◌, subst, arith, append_assoc, append-nil}
+use Rattle.std.proofs.Common.{◌≡◌, inl, inr, ℕ, ◌+◌, ◌≤◌, Bool, true, ◌||◌, List, [], ◌∷◌, ◌++◌, map, length, refl, sym, ap, ◌∙◌, subst, arith, append_assoc, append-nil}
 use Rattle.std.specs.Prelude.{All, nat_eq}
 use Rattle.std.specs.List.{list_any}
 use Rattle.std.proofs.lemmas.Bool.{cases_Bool, eq-eqb}
 use Rattle.std.proofs.lemmas.Bool.Decides.{nat_tests}
 use Rattle.std.proofs.lemmas.List.{map-append}
-use Rattle.std.proofs.lemmas.List.Elements.{All-nil, All-cons, All-head, All-tail, All-push, All-weaker}
+use Rattle.std.proofs.lemmas.List.Elements.{All-push, All-weaker}
 use Rattle.delivery_model.specs.Grids.{Points, Grid}
-use Rattle.delivery_model.specs.Window.{Job, Draw, Packet, NewWindow, WindowResized, Draws, Window}
+use Rattle.delivery_model.specs.Window.{Job, Draw, Packet, Draws, Window}
 use Rattle.delivery_model.specs.Events.{Planned, jobs_of, region_taken, captured, with_result}
-use Rattle.delivery_model.specs.Invariant.{draws_of}
 use Rattle.delivery_model.specs.Numbers.{Rise}
-use Rattle.delivery_model.proofs.Numberings.{rise_from, rise_later, rise_append, rise_bound, rise_push, rise_jobs, draws-append, numbers-with_result, draw_numbers}
+use Rattle.delivery_model.proofs.Numberings.{rise_later, rise_append, rise_bound, rise_push, rise_jobs, draws-append, numbers-with_result, draw_numbers}
 use Rattle.delivery_log.specs.Log.{Entry, Fresh, Kept, Damaged, JobCaptured, DrawQueued, DrawWritten, captures}
 use Rattle.delivery_log.specs.Stale.{is_capture, queued_draws, written_draws}
 use Rattle.delivery_log.specs.Agreement.{Recorded, recorded, captured_jobs, queued_jobs, JobsAgree, DrawsAgree}

@@ -1,16 +1,16 @@
 -- Logs that grow.
-use Rattle.std.proofs.Common.{◌≡◌, ◌⊎◌, inl, inr, ℕ, ◌<◌, ◌≤◌, Bool, true, false, not, ◌&&◌, ◌||◌, List, [], ◌∷◌, ◌++◌, map, cond, refl, sym, ap, ◌∙◌, arith, append_assoc, append-nil}
+use Rattle.std.proofs.Common.{◌≡◌, ℕ, Bool, true, false, ◌&&◌, ◌||◌, List, [], ◌∷◌, ◌++◌, cond, refl, sym, ap, ◌∙◌, arith, append_assoc, append-nil}
 use Rattle.std.specs.Prelude.{All, nat_eq}
 use Rattle.std.specs.List.{list_any}
-use Rattle.std.proofs.lemmas.Bool.{cases_Bool, or_parts, and_parts, eqb-true, eq-eqb, false_from_ne_true, false≢true}
+use Rattle.std.proofs.lemmas.Bool.{or_parts, and_parts, eq-eqb, false_from_ne_true, false≢true}
 use Rattle.std.proofs.lemmas.Bool.Decides.{nat_tests}
-use Rattle.std.proofs.lemmas.List.Elements.{All-nil, All-cons, All-head, All-tail, All-weaker}
+use Rattle.std.proofs.lemmas.List.Elements.{All-head, All-tail, All-weaker}
 use Rattle.xp_base.specs.declared.coding.Coding.{Coding}
 use Rattle.xp_base.specs.declared.coding.Coding.TheVariants as C
-use Rattle.xp_base.specs.Points.{is_in, is_within}
+use Rattle.xp_base.specs.Points.{is_in}
 use Rattle.delivery_model.specs.Events.{same_coding}
 use Rattle.delivery_log.specs.Log.{Entry, Fresh, Kept, Damaged, JobCaptured, DrawQueued, DrawWritten}
-use Rattle.delivery_log.specs.Stale.{is_origin, since, since_origin, is_capture, is_covering, is_queueing, is_repair, is_lossy_over, queued_draws, written_draws}
+use Rattle.delivery_log.specs.Stale.{is_origin, since, since_origin, is_capture, is_covering, is_queueing, is_repair, is_lossy_over}
 use Rattle.delivery_log.specs.Agreement.{queued_jobs}
 
 -- some entry passes a test

@@ -1,31 +1,18 @@
 -- What the parts of a quiet turn do.
-use Rattle.std.proofs.Common.{◌≡◌, ◌≢◌, ◌⊎◌, inl, inr, ℕ, zero, suc, ◌+◌, ◌-◌, ◌*◌, ◌<◌, ◌≤◌, Bool, true, false, not, ◌&&◌, ◌||◌, List, [], ◌∷◌, ◌++◌, Option, Some, None, map, length, cond, refl, sym, ap, ◌∙◌, subst, arith}
-use Rattle.std.specs.Prelude.{All, nat_eq, nat_lt, nat_le, max, replicate, ◌^◌}
+use Rattle.std.proofs.Common.{◌≡◌, ◌⊎◌, inl, inr, ℕ, ◌+◌, ◌<◌, Bool, true, false, ◌&&◌, ◌||◌, List, [], ◌∷◌, Option, Some, None, map, length, cond, refl, sym, ap, ◌∙◌, subst, arith}
+use Rattle.std.specs.Prelude.{All, nat_eq, replicate}
 use Rattle.std.specs.List.{list_any}
-use Rattle.std.proofs.lemmas.Bool.{cases_Bool, and_parts, and_from, or_parts, or_from, or_cases, not-true, eqb-true, eq-eqb, ltb-true, false_from_ne_true, false≢true, cond-true, cond-false}
-use Rattle.std.proofs.lemmas.Bool.Decides.{nat_tests}
+use Rattle.std.proofs.lemmas.Bool.{cases_Bool, and_parts, eqb-true, eq-eqb, false_from_ne_true, false≢true, cond-true, cond-false}
 use Rattle.std.proofs.lemmas.List.Elements.{All-nil, All-cons, All-head, All-tail, All-weaker}
-use Rattle.xp_base.specs.declared.coding.Coding.{Coding}
-use Rattle.xp_base.specs.declared.coding.Coding.TheVariants as C
-use Rattle.xp_base.specs.Points.{Rectangle, is_in, is_within}
+use Rattle.xp_base.specs.Points.{Rectangle}
 use Rattle.xp_base.specs.Captures.{Captured}
-use Rattle.delivery_model.specs.Grids.{Points, Grid, has, points}
-use Rattle.delivery_model.specs.Window.{Job, Packet, NewWindow, WindowResized, Draws, Sent, Window}
-use Rattle.delivery_model.specs.Events.{is_empty, jobs_relieve, Planned, region_taken, jobs_of, load, captured, lossy_queued, queued, queue_ready, with_result, same_capture, capture_of, Filing, Late, Foreign, Filed, filing_of, filed_as, filed, written_front, written, rect_sent, without_sent, counted, acknowledged_as, acknowledged, File, Write, Acknowledge, Capture}
-use Rattle.delivery_model.specs.Refusals.{CaptureAnswer, Unmapped, Clean, Early, Congested, Heavy, Spent, Allowed, is_busy, is_clean, earliest, capture_answer, is_allowed, captured_where}
-use Rattle.delivery_model.specs.Owed.{packets_relieve, is_owed, owes}
-use Rattle.delivery_model.specs.Plans.{IsPlan, IsCaptureOf}
-use Rattle.delivery_model.specs.Changes.{owed_acknowledged, owed_without_front}
-use Rattle.delivery_model.specs.Kept.{IsKept}
+use Rattle.delivery_model.specs.Window.{Job, Packet, Sent, Window}
+use Rattle.delivery_model.specs.Events.{load, queued, queue_ready, with_result, same_capture, capture_of, Filing, Late, Foreign, Filed, filing_of, filed_as, written_front, rect_sent, without_sent, acknowledged_as, acknowledged}
 use Rattle.delivery_model.specs.Numbers.{Rise, IsNumbered}
-use Rattle.delivery_model.specs.Point.{is_exact}
-use Rattle.delivery_model.proofs.Grids.{has-points_within, has-empty, empty-has_none, none-is_empty}
-use Rattle.delivery_model.proofs.Numberings.{above, rise_without, numbered_filed, sent_numbers}
-use Rattle.delivery_model.proofs.Runs.{kept_changed}
-use Rattle.delivery_model.proofs.OwedSteps.{owed_changed}
+use Rattle.delivery_model.proofs.Numberings.{rise_without, numbered_filed, sent_numbers}
 use Rattle.delivery_log.specs.Times.{IsTimed}
-use Rattle.delivery_log.specs.Rest.{is_none, is_idle, owes_nothing, rest, greatest_rest, rest_of, read, Result, file_all, write_all, Turn, captured_in, turned, is_waiting, AllAcknowledged, IsQuiet, FrontWaits, HaveResults, CameNearer}
-use Rattle.delivery_log.proofs.TimeSteps.{timed_acknowledged, due_after}
+use Rattle.delivery_log.specs.Rest.{is_none, is_idle, rest, read, Result, file_all, write_all, is_waiting, AllAcknowledged, FrontWaits, HaveResults}
+use Rattle.delivery_log.proofs.TimeSteps.{timed_acknowledged}
 
 -- an idle window
 pub idle_parts : (w : Window) → is_idle w ≡ true → (w.jobs ≡ []) × (w.packets ≡ [])

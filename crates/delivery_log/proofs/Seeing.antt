@@ -1,29 +1,26 @@
 -- What the log and the window show at a point, as the log grows.
-use Rattle.std.proofs.Common.{◌≡◌, ◌≢◌, ◌⊎◌, inl, inr, ℕ, ◌+◌, ◌<◌, ◌≤◌, Bool, true, false, not, ◌&&◌, ◌||◌, List, [], ◌∷◌, ◌++◌, map, length, refl, sym, ap, ◌∙◌, subst, arith, append_assoc, append-nil}
+use Rattle.std.proofs.Common.{◌≡◌, ◌⊎◌, inl, inr, ℕ, ◌+◌, ◌<◌, ◌≤◌, Bool, true, false, not, ◌&&◌, ◌||◌, List, [], ◌∷◌, ◌++◌, map, refl, sym, ap, ◌∙◌, subst, arith, append_assoc}
 use Rattle.std.specs.Prelude.{All, nat_eq}
 use Rattle.std.specs.List.{list_any}
-use Rattle.std.proofs.lemmas.Bool.{cases_Bool, and_parts, and_from, or_parts, eqb-true, eq-eqb, false_from_ne_true, false≢true}
+use Rattle.std.proofs.lemmas.Bool.{cases_Bool, and_parts, or_parts, eqb-true, eq-eqb, false_from_ne_true, false≢true}
 use Rattle.std.proofs.lemmas.Bool.Decides.{nat_tests}
-use Rattle.std.proofs.lemmas.List.{map-append}
 use Rattle.std.proofs.lemmas.List.Elements.{All-nil, All-cons, All-head, All-tail, All-weaker}
 use Rattle.xp_base.specs.declared.coding.Coding.{Coding}
-use Rattle.xp_base.specs.declared.coding.Coding.TheVariants as C
-use Rattle.xp_base.specs.Points.{Rectangle, is_in, is_within}
-use Rattle.delivery_model.specs.Grids.{Points, Grid, has, points}
+use Rattle.xp_base.specs.Points.{is_in, is_within}
+use Rattle.delivery_model.specs.Grids.{Points, Grid, has}
 use Rattle.delivery_model.specs.Window.{Job, Draw, Packet, NewWindow, WindowResized, Draws, Window}
 use Rattle.delivery_model.specs.Events.{Planned, jobs_of, same_coding, jobs_relieve, with_relief}
 use Rattle.delivery_model.specs.Invariant.{draws_of}
 use Rattle.delivery_model.specs.Numbers.{Rise}
 use Rattle.delivery_model.specs.Plans.{AreApart}
-use Rattle.delivery_model.specs.Point.{is_exact}
 use Rattle.delivery_model.specs.Owed.{packets_relieve}
 use Rattle.delivery_model.proofs.Grids.{has-points_within}
-use Rattle.delivery_model.proofs.Numberings.{above, reaches, rise_bound}
+use Rattle.delivery_model.proofs.Numberings.{reaches, rise_bound}
 use Rattle.delivery_model.proofs.JobSteps.{jobs_of-relieve}
 use Rattle.delivery_log.specs.Log.{Entry, Fresh, Kept, Damaged, JobCaptured, DrawQueued, DrawWritten, captures}
-use Rattle.delivery_log.specs.Stale.{is_origin, since, since_origin, is_capture, is_covering, is_queueing, is_repair, is_lossy_over, queued_draws, written_draws}
-use Rattle.delivery_log.specs.Traces.{Trace, Hand, written_at, waiting_at, hand_at, any_repair, any_trace_relieves, any_hand_relieves, any_before, any_after_relieves, any_after_covers, NoneRelievesBehind, NoneBeforeBehind}
-use Rattle.delivery_log.specs.Agreement.{Recorded, recorded, captured_jobs, queued_jobs}
+use Rattle.delivery_log.specs.Stale.{is_origin, since, since_origin, is_capture, is_covering, is_queueing, queued_draws}
+use Rattle.delivery_log.specs.Traces.{Hand, written_at, waiting_at, hand_at, any_repair, any_trace_relieves, any_hand_relieves, any_before, any_after_relieves, any_after_covers, NoneRelievesBehind, NoneBeforeBehind}
+use Rattle.delivery_log.specs.Agreement.{Recorded, captured_jobs, queued_jobs}
 use Rattle.delivery_log.proofs.Logs.{any_entry-append, since_origin-append, since_origin-now, repair_stays, lossy_stays, repair_ends}
 use Rattle.delivery_log.proofs.Lists.{record_numbers, hand_numbers, captures_as}
 

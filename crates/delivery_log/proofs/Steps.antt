@@ -1,34 +1,25 @@
 -- Each event keeps the agreement of a window and its log.
-use Rattle.std.proofs.Common.{◌≡◌, ◌≢◌, ◌⊎◌, inl, inr, ℕ, zero, suc, ◌+◌, ◌-◌, ◌<◌, ◌≤◌, Bool, true, false, not, ◌&&◌, ◌||◌, List, [], ◌∷◌, ◌++◌, Option, Some, None, map, length, cond, refl, sym, ap, ◌∙◌, subst, arith, append_assoc, append-nil}
-use Rattle.std.specs.Prelude.{All, nat_eq, nat_lt, min}
+use Rattle.std.proofs.Common.{◌≡◌, ◌⊎◌, inl, inr, ℕ, Bool, true, false, not, ◌&&◌, ◌||◌, List, [], ◌∷◌, ◌++◌, map, cond, refl, sym, ◌∙◌, subst, arith, append-nil}
+use Rattle.std.specs.Prelude.{nat_eq}
 use Rattle.std.specs.List.{list_any}
-use Rattle.std.proofs.lemmas.Bool.{cases_Bool, and_parts, and_from, or_parts, or_cases, or_right, eqb-true, eq-eqb, false_from_ne_true, false≢true}
+use Rattle.std.proofs.lemmas.Bool.{cases_Bool, and_from, or_right}
 use Rattle.std.proofs.lemmas.Bool.Decides.{nat_tests}
 use Rattle.std.proofs.lemmas.List.{map-append}
-use Rattle.std.proofs.lemmas.List.Elements.{All-nil, All-cons, All-head, All-tail, All-weaker, All-append}
-use Rattle.xp_base.specs.declared.coding.Coding.{Coding}
-use Rattle.xp_base.specs.declared.coding.Coding.TheVariants as C
-use Rattle.xp_base.specs.Points.{Rectangle, is_in, is_within, survives, clip, whole}
-use Rattle.delivery_model.specs.Grids.{Points, Grid, has, points}
-use Rattle.delivery_model.specs.Window.{Job, Draw, Packet, NewWindow, WindowResized, Draws, Sent, Window}
-use Rattle.delivery_model.specs.Events.{is_empty, jobs_relieve, started, damaged, painted, Planned, region_taken, jobs_of, captured, relief_queued, lossy_queued, queued, queue_ready, with_result, same_coding, given_back, unmapped, counted, with_relief, resized, written_front}
+use Rattle.std.proofs.lemmas.List.Elements.{All-nil}
+use Rattle.xp_base.specs.Points.{Rectangle, is_in, is_within, survives, clip}
+use Rattle.delivery_model.specs.Grids.{Grid, has}
+use Rattle.delivery_model.specs.Window.{Draw, Packet, NewWindow, WindowResized, Draws, Window}
+use Rattle.delivery_model.specs.Events.{jobs_relieve, started, damaged, given_back, unmapped, resized, written_front}
 use Rattle.delivery_model.specs.Invariant.{draws_of}
-use Rattle.delivery_model.specs.Kept.{JobFits, IsKept}
-use Rattle.delivery_model.specs.Plans.{AreApart, IsPlan, IsCaptureOf}
-use Rattle.delivery_model.specs.Refusals.{is_busy, is_clean}
-use Rattle.delivery_model.specs.Point.{is_exact, job_at}
-use Rattle.delivery_model.proofs.Grids.{has-points, has-points_within, has-empty}
-use Rattle.delivery_model.proofs.Numberings.{draws-append, numbers-with_relief}
-use Rattle.delivery_model.proofs.PointSteps.{relief_at as model_relief, lossy_at as model_lossy}
-use Rattle.delivery_model.proofs.JobSteps.{jobs_of-relieve, has-relief_queued, has-lossy_queued, keeps_queued}
-use Rattle.delivery_log.specs.Log.{Entry, Fresh, Kept, Damaged, JobCaptured, DrawQueued, DrawWritten, captures, queues, writings, clipped}
-use Rattle.delivery_log.specs.Stale.{is_origin, since_origin, is_capture, is_queueing, queued_draws, written_draws}
-use Rattle.delivery_log.specs.Traces.{Trace, Hand, Seen, written_at, waiting_at, hand_at, seen_at, PointAgrees, any_hand_relieves}
-use Rattle.delivery_log.specs.Agreement.{Recorded, recorded, captured_jobs, queued_jobs, JobsAgree, DrawsAgree, Agrees}
-use Rattle.delivery_log.proofs.Traces.{agrees_origin, agrees_captured, agrees_refreshed, agrees_cancelled, agrees_written, agrees_queued, draw_of, relief_at, lossy_at}
-use Rattle.delivery_log.proofs.Logs.{any_entry-append, since_origin-append, repair_queued, lossy_queued as lossy_drawn}
-use Rattle.delivery_log.proofs.Lists.{hand_numbers, record_numbers, queued-append, written-append, jobs_stay, jobs_cancelled, jobs_captured, jobs_queued, jobs_marked, draws_stay, draws_queued, draws_written, undrawn-captures, unwritten-captures}
-use Rattle.delivery_log.proofs.Seeing.{AllUnqueued, AllUncaptured, unqueued_all, all_numbers, uncaptured_all, below_next, other_numbers, queueing_new, written_stay, waiting_stay, hands_stay, written_none, waiting_none, hands_none, hands_before, hands_relieve, OnlyAs, only_as, covering_only, covering_since, captures_quiet, captures_new, captures_after, after_relieves, captures_apart, waiting_resized}
+use Rattle.delivery_model.proofs.Grids.{has-points_within}
+use Rattle.delivery_model.proofs.Numberings.{numbers-with_relief}
+use Rattle.delivery_log.specs.Log.{Entry, Fresh, Kept, Damaged, DrawWritten, writings, clipped}
+use Rattle.delivery_log.specs.Stale.{is_origin, is_capture, is_queueing, queued_draws, written_draws}
+use Rattle.delivery_log.specs.Traces.{written_at, waiting_at, hand_at, seen_at, PointAgrees}
+use Rattle.delivery_log.specs.Agreement.{captured_jobs, queued_jobs, Agrees}
+use Rattle.delivery_log.proofs.Traces.{agrees_origin, agrees_cancelled, agrees_written}
+use Rattle.delivery_log.proofs.Lists.{hand_numbers, written-append, jobs_stay, jobs_cancelled, draws_stay, draws_written}
+use Rattle.delivery_log.proofs.Seeing.{AllUnqueued, AllUncaptured, unqueued_all, all_numbers, uncaptured_all, written_stay, waiting_stay, hands_stay, written_none, waiting_none, hands_none, hands_before, hands_relieve, waiting_resized}
 
 abbrev pub sequences_of : List Packet → List ℕ
 sequences_of packets = map (λ (d : Draw). d.sequence) (draws_of packets)

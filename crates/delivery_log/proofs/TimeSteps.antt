@@ -1,12 +1,12 @@
 -- Every event keeps the times.
-use Rattle.std.proofs.Common.{◌≡◌, ◌⊎◌, inl, inr, ℕ, ◌+◌, ◌-◌, ◌*◌, ◌/◌, ◌≤◌, Bool, true, false, not, ◌&&◌, List, [], ◌∷◌, Option, Some, None, cond, refl, arith}
+use Rattle.std.proofs.Common.{◌≡◌, ℕ, ◌+◌, ◌-◌, ◌*◌, ◌/◌, ◌≤◌, Bool, true, false, not, ◌&&◌, List, [], ◌∷◌, Option, Some, None, cond, refl, arith}
 use Rattle.std.specs.Prelude.{min, max, length, nat_le}
 use Rattle.xp_base.specs.declared.coding.Coding.{Coding}
 use Rattle.xp_base.specs.declared.coding.Coding.TheVariants as C
-use Rattle.xp_base.specs.Points.{Rectangle, whole}
-use Rattle.delivery_model.specs.Grids.{Points, Grid}
+use Rattle.xp_base.specs.Points.{Rectangle}
+use Rattle.delivery_model.specs.Grids.{Points}
 use Rattle.delivery_model.specs.Window.{Job, Packet, Sent, Window}
-use Rattle.delivery_model.specs.Events.{is_empty, started, put_pending, damaged, painted, Planned, load, captured, queued, lossy_since_queued, queue_ready, with_result, Filing, Late, Foreign, Filed, filing_of, capture_of, filed_as, written_front, rect_sent, without_sent, counted, acknowledged_as, given_back, resized, Event, Start, Paint, Capture, File, Write, Acknowledge, MapWindow, UnmapWindow, Recall, Resize, BufferRefresh, Close, changed, step}
+use Rattle.delivery_model.specs.Events.{is_empty, put_pending, painted, Planned, load, captured, queued, lossy_since_queued, queue_ready, with_result, Filing, Late, Foreign, Filed, filing_of, capture_of, filed_as, written_front, rect_sent, without_sent, counted, acknowledged_as, given_back, resized, Event, Start, Paint, Capture, File, Write, Acknowledge, MapWindow, UnmapWindow, Recall, Resize, BufferRefresh, Close, changed, step}
 use Rattle.delivery_model.specs.Refusals.{earliest}
 use Rattle.delivery_log.specs.Times.{IsTimed, TimedWhereThere, IsBy}
 

@@ -1,6 +1,5 @@
 -- Each event keeps the agreement at one point, and the agreement says that a point is owed exactly where it is stale.
 use Rattle.std.proofs.Common.{◌≡◌, ◌⊎◌, inl, inr, append_assoc, Bool, true, false, not, ◌&&◌, ◌||◌, List, [], ◌∷◌, ◌++◌, refl, sym, ap, ◌∙◌, subst, arith}
-use Rattle.std.specs.List.{list_any}
 use Rattle.std.proofs.lemmas.Bool.{cases_Bool, or_parts, or_cases, and_parts, not-true, false≢true, false_from_ne_true}
 use Rattle.std.proofs.lemmas.Bool.Decides.{nat_tests}
 use Rattle.delivery_log.specs.Traces.{Trace, Hand, Seen, any_repair, any_lossy, any_trace_relieves, is_repaired, any_hand_relieves, any_before, any_after_relieves, any_after_covers, FirstRelieves, NoneLossyBehind, NoneRelievesBehind, NoneBeforeBehind, PointAgrees}

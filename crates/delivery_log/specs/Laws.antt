@@ -1,5 +1,5 @@
 -- What is true of every log, as statements. Each is the contract of a function of `src/laws.rt`.
-use Rattle.std.specs.Prelude.{ℕ, ◌+◌, ◌-◌, ◌≡◌, ◌≤◌, ◌<◌, Bool, true, false, not, ◌&&◌, ◌||◌, Option, Some, None, List, [], ◌∷◌, replicate, length}
+use Rattle.std.specs.Prelude.{ℕ, ◌+◌, ◌-◌, ◌≡◌, ◌≤◌, Bool, true, false, ◌&&◌, ◌||◌, Option, Some, None, List, [], ◌∷◌, replicate, length}
 use Rattle.xp_base.specs.Points.{is_within}
 use Rattle.delivery_model.specs.Grids.{has}
 use Rattle.delivery_model.specs.Window.{Window}

@@ -1,5 +1,5 @@
 -- One point: what the log says there of each draw and job, and how that agrees with what the window has there.
-use Rattle.std.specs.Prelude.{ℕ, ◌≡◌, Bool, true, false, not, ◌&&◌, ◌||◌, List, [], ◌∷◌, ◌++◌, map, if◌then◌else◌}
+use Rattle.std.specs.Prelude.{ℕ, ◌≡◌, Bool, true, false, not, ◌&&◌, ◌||◌, List, [], ◌∷◌, ◌++◌, map}
 use Rattle.std.specs.List.{list_any}
 use Rattle.xp_base.specs.Points.{is_in}
 use Rattle.delivery_model.specs.Grids.{has}

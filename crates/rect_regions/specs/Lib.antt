@@ -1,2 +1,6 @@
 pub mod PointSets
 pub mod Bands
+pub mod Combinations
+pub mod BitRows
+pub mod Bounding
+pub mod Making

@@ -1,11 +1,13 @@
 // Replays: what clients show of bytes, in whatever pieces these come, and what they answer.
 ghost use Rattle.std.specs.Prelude.{◌≤◌};
 
-use client_replay::{Fed, Replay};
+use client_replay::{Fed, PeerBay, Replay, exact_hello};
+use link_bay::{Accept, Bay, Gave, Kind, Name, Order, Wrote};
 use std::alloc::Global;
 use std::fmt::Write;
 use std::test::Fail;
 use window_model::{Desk, Win};
+use xp_base::{Conn, Wid};
 
 /// Adds a header and its content.
 fn push_frame(bytes: &mut Vec<u8>, index: u8, content: &[u8]) -> Result<(), Fail> {
@@ -251,5 +253,110 @@ fn a_draw_of_one_pixel_is_shown_with_its_last_byte(rt: HostRuntime) -> Result<()
     assert_eq!(rt; part.0.as_str(), "1 at 0 0 of 1 1: 0; 78 unread");
     let short = replayed(alloc, THREE_BYTES.as_slice(), 3)?;
     assert_eq!(rt; short.0.as_str(), "1 at 0 0 of 1 1: 0; 51 Data");
+    Ok(())
+}
+
+const ONE_MAP: &[u8; 38] = b"\x50\0\0\0\0\0\0\x1el10:map-windowi1ei0ei0ei1ei1ee";
+
+const ONE_DRAWN: &[u8; 45] = b"\x50\0\0\0\0\0\0\x25l15:damage-sequencei1ei1ei1ei1ei0e0:e";
+
+const HELLO: &[u8; 39] = b"\x50\0\0\0\0\0\0\x1fl5:hellod9:encodingsl5:rgb32eee";
+
+/// An order for a peer.
+fn join(alloc: Global, kind: Kind, name: &[u8]) -> Result<Order, Fail> {
+    Ok(Order::Join(kind, Name::new(Vec::from_slice(alloc, name)?)))
+}
+
+#[test]
+fn an_exact_peer_says_hello_and_answers_what_it_is_shown(rt: HostRuntime) -> Result<(), Fail> {
+    let alloc = rt.alloc();
+    let mut bay = PeerBay::new(alloc);
+    assert_eq!(rt; bay.accept(), Accept::Nobody);
+    bay.order(&join(alloc, Kind::Exact, b"")?)?;
+    assert_eq!(rt; bay.accept(), Accept::Conn(Conn(0)));
+    assert_eq!(rt; bay.accept(), Accept::Nobody);
+    let c = Conn(0);
+    let mut said = Vec::new(alloc);
+    assert_eq!(rt; bay.read(c, &mut said, 1_000), Gave::Bytes(39));
+    assert_eq!(rt; said.as_slice(), exact_hello());
+    assert_eq!(rt; said.as_slice(), HELLO.as_slice());
+    assert_eq!(rt; bay.read(c, &mut said, 1_000), Gave::Again);
+    assert_eq!(rt; bay.write(c, &ONE_PIXEL[..118]), Wrote::Took(118));
+    let mut map = Vec::new(alloc);
+    assert_eq!(rt; bay.read(c, &mut map, 1_000), Gave::Bytes(38));
+    assert_eq!(rt; map.as_slice(), ONE_MAP.as_slice());
+    assert_eq!(rt; bay.write(c, &ONE_PIXEL[118..]), Wrote::Took(1));
+    let mut drawn = Vec::new(alloc);
+    assert_eq!(rt; bay.read(c, &mut drawn, 1_000), Gave::Bytes(45));
+    assert_eq!(rt; drawn.as_slice(), ONE_DRAWN.as_slice());
+    bay.order(&Order::Leave(c))?;
+    assert_eq!(rt; bay.write(c, ONE_PIXEL.as_slice()), Wrote::Took(119));
+    assert_eq!(rt; bay.read(c, &mut drawn, 1_000), Gave::End);
+    Ok(())
+}
+
+#[test]
+fn a_stalling_peer_takes_nothing_twice(rt: HostRuntime) -> Result<(), Fail> {
+    let alloc = rt.alloc();
+    let mut bay = PeerBay::new(alloc);
+    bay.order(&join(alloc, Kind::Dry(2), b"")?)?;
+    assert_eq!(rt; bay.accept(), Accept::Conn(Conn(0)));
+    let c = Conn(0);
+    assert_eq!(rt; bay.write(c, b"abc"), Wrote::Took(0));
+    assert_eq!(rt; bay.write(c, b""), Wrote::Took(0));
+    assert_eq!(rt; bay.write(c, b"abc"), Wrote::Took(0));
+    assert_eq!(rt; bay.write(c, b"abc"), Wrote::Took(3));
+    Ok(())
+}
+
+/// What a scripted peer says that was ordered to map, unmap and refresh windows.
+const ORDERED: &[Packet] = &[
+    (b"", "l10:map-windowi1ei0ei0ei1ei1ee"),
+    (b"", "l10:map-windowi2ei0ei0ei0ei0ee"),
+    (b"", "l12:unmap-windowi1ee"),
+    (b"", "l14:buffer-refreshi1ee"),
+];
+
+#[test]
+fn a_scripted_peer_answers_nothing_and_obeys(rt: HostRuntime) -> Result<(), Fail> {
+    let alloc = rt.alloc();
+    let mut bay = PeerBay::new(alloc);
+    bay.order(&join(alloc, Kind::Hex, b"hi")?)?;
+    assert_eq!(rt; bay.accept(), Accept::Conn(Conn(0)));
+    let c = Conn(0);
+    let one = Wid::new(1).ok_or("a window's number")?;
+    let two = Wid::new(2).ok_or("a window's number")?;
+    let mut said = Vec::new(alloc);
+    assert_eq!(rt; bay.write(c, ONE_PIXEL.as_slice()), Wrote::Took(119));
+    assert_eq!(rt; bay.read(c, &mut said, 1_000), Gave::Bytes(2));
+    assert_eq!(rt; said.as_slice(), b"hi".as_slice());
+    assert_eq!(rt; bay.read(c, &mut said, 1_000), Gave::Again);
+    bay.order(&Order::Map(c, one))?;
+    bay.order(&Order::Map(c, two))?;
+    bay.order(&Order::Unmap(c, one))?;
+    bay.order(&Order::Refresh(c, one))?;
+    bay.order(&Order::Map(Conn(1), one))?;
+    let want = stream(alloc, ORDERED)?;
+    let mut told = Vec::new(alloc);
+    let _ = bay.read(c, &mut told, 1_000);
+    assert_eq!(rt; told.as_slice(), want.as_slice());
+    bay.order(&Order::Say(c, Name::new(Vec::from_slice(alloc, b"ho")?)))?;
+    let mut last = Vec::new(alloc);
+    assert_eq!(rt; bay.read(c, &mut last, 1_000), Gave::Bytes(2));
+    assert_eq!(rt; last.as_slice(), b"ho".as_slice());
+    Ok(())
+}
+
+#[test]
+fn a_lossy_peers_uuid_is_its_hellos_last_key(rt: HostRuntime) -> Result<(), Fail> {
+    let alloc = rt.alloc();
+    let mut bay = PeerBay::new(alloc);
+    bay.order(&join(alloc, Kind::Lossy, b"u")?)?;
+    assert_eq!(rt; bay.accept(), Accept::Conn(Conn(0)));
+    let mut said = Vec::new(alloc);
+    assert_eq!(rt; bay.read(Conn(0), &mut said, 1_000), Gave::Bytes(88));
+    let want =
+        b"\x50\0\0\0\0\0\0\x50l5:hellod9:encodingsl5:rgb32e21:encodings.rgb_formatsl4:BGRX6:BGR565e4:uuid1:uee";
+    assert_eq!(rt; said.as_slice(), want.as_slice());
     Ok(())
 }

@@ -1,0 +1,12 @@
+pub mod Marks
+pub mod Rects
+pub mod Places
+pub mod Runs
+pub mod RunSteps
+pub mod Makings
+pub mod Joinings
+pub mod Counts
+pub mod Boundings
+pub mod RowSteps
+pub mod BitSteps
+pub mod BitBounds

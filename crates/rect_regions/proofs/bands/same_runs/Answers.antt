@@ -1,0 +1,7 @@
+use Rattle.std.proofs.Common.{◌≡◌, ℕ, ◌+◌, ◌<◌, ◌≤◌, ◌==◌, ◌&&◌, Bool, true, false, List, [], ◌∷◌, take, drop, length, get_or, refl, sym, ap, ◌∙◌, arith, rules}
+use Rattle.rect_regions.specs.Making.{same_runs}
+use Rattle.rect_regions.proofs.Runs.{same_runs-length}
+use Rattle.rect_regions.proofs.bands.same_runs.Goals as goal
+
+pub returns-then-one-other : goal.returns-then-one-other
+returns-then-one-other c = sym (same_runs-length c.args.one.now c.args.other.now c.if-one-other.true)

@@ -1,0 +1,28 @@
+// How two sets make another.
+ghost use Rattle.std.specs.Prelude.{◌≡◌};
+
+/// Which points stay of those of two sets.
+#[derive(Clone, Copy, Debug, PartialEq, Eq)]
+pub enum Combination {
+    /// The points of either.
+    Union,
+    /// The points of the one that the other has not.
+    Difference,
+    /// The points of both.
+    Overlap,
+}
+
+impl Combination {
+    ghost use Rattle.rect_regions.specs.Combinations.{keeps};
+
+    /// Whether a point stays, by whether the one set has it and the other.
+    pub fn keeps(self, one: bool, other: bool) -> bool
+        ensures { result ≡ keeps self one other }
+    {
+        match self {
+            Combination::Union => one || other,
+            Combination::Difference => one && !other,
+            Combination::Overlap => one && other,
+        }
+    }
+}
