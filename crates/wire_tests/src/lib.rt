@@ -1,4 +1,4 @@
-//! Tests of what stands between pixels and bytes: values, frames, hellos, packets, codings and replays. Nothing stands on this crate.
+//! Tests of what stands between pixels and bytes: values, frames, hellos, packets and codings. Nothing stands on this crate.
 #![tactic(auto)]
 
 #[cfg(test)]
@@ -9,7 +9,5 @@ mod frames;
 mod hello;
 #[cfg(test)]
 mod kinds;
-#[cfg(test)]
-mod replay;
 #[cfg(test)]
 mod values;
