@@ -1,6 +1,6 @@
 -- What is said of a set, carried over to one with the same points.
-use Rattle.std.proofs.Common.{◌≡◌, ℕ, zero, suc, ◌+◌, ◌<◌, Bool, true, false, ◌&&◌, ◌||◌, not, cond, Option, Some, None, MatchOption, refl, sym, ap, ◌∙◌, arith}
-use Rattle.xp_base.specs.Points.{Rectangle, is_in}
+use Rattle.std.proofs.Common.{◌≡◌, ℕ, zero, suc, ◌+◌, Bool, ◌&&◌, ◌||◌, not, cond, Option, Some, None, MatchOption, refl, sym, ap, ◌∙◌}
+use Rattle.xp_base.specs.Points.{Rectangle}
 use Rattle.rect_regions.specs.PointSets.{SamePoints, HasNone, IsLimited, united, without, shared, sum_below, count_row, count_of, IsBounds}
 
 -- sums of the same items

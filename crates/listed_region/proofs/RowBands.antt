@@ -1,7 +1,7 @@
 -- Row-band lists of sets with the same points.
-use Rattle.std.proofs.Common.{◌≡◌, ℕ, ◌+◌, ◌≤◌, ◌<◌, Bool, true, false, ◌&&◌, ◌||◌, List, [], ◌∷◌, refl, sym, ap, ◌∙◌, arith}
+use Rattle.std.proofs.Common.{◌≡◌, ℕ, ◌≤◌, Bool, true, ◌||◌, List, [], ◌∷◌, refl, sym, ◌∙◌, arith}
 use Rattle.std.proofs.lemmas.Bool.Decides.{nat_tests}
-use Rattle.xp_base.specs.Points.{Rectangle, IsRectangle, is_in}
+use Rattle.xp_base.specs.Points.{Rectangle, is_in}
 use Rattle.rect_regions.specs.PointSets.{has, SamePoints, HasNone}
 use Rattle.rect_regions.specs.Bands.{Each, BeginsAnew, IsRowBands, IsBanded}
 
