@@ -1,8 +1,10 @@
 -- A window's source, as contracts see it: the model's window of one client without the desktop's pixels, the client's window and
 -- the packets that wait. This project's own.
-use Rattle.std.specs.Prelude.{ℕ, Bool, Option, None, List, []}
+use Rattle.std.specs.Prelude.{ℕ, ◌+◌, Bool, Option, None, List, [], ◌∷◌}
+use Rattle.xp_base.specs.Points.{area}
 use Rattle.delivery_model.specs.Grids.{Points, Grid}
 use Rattle.delivery_model.specs.Window.{Job, Packet, Sent, Window}
+use Rattle.delivery_model.specs.Events.{started}
 
 -- the connection and the window, the window's size in pixels, and all else that the model's window has of the source
 pub record SourceSeen : Type 0 where
@@ -62,3 +64,12 @@ alone s = window_of s [] None []
 -- the source after an event of the model that asks for no pixels and no packets
 abbrev pub after : (Window → Window) → SourceSeen → SourceSeen
 after event s = source_of s.conn s.wid (event (alone s))
+
+-- a source as it begins: not mapped, the whole window pending since now
+abbrev pub begun : ℕ → ℕ → ℕ → ℕ → ℕ → SourceSeen
+begun conn wid w h now = source_of conn wid (started (record { wide = w; high = h; numbers = [] }) now)
+
+-- the pixels of all jobs in hand
+abbrev pub job_pixels : List Job → ℕ
+job_pixels [] = 0
+job_pixels (j ∷ jobs) = area j.capture.rect + job_pixels jobs

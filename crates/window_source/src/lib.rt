@@ -1,3 +1,6 @@
-//! One client's view of one window. Here is what its calls are said with: what the source has of the model's window, and
-//! what a packet that waits is to it.
+//! One client's view of one window. Each call is an event of the model of delivering a window to a client.
 #![tactic(auto)]
+
+mod source;
+
+pub use source::WindowSource;
