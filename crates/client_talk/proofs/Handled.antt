@@ -71,25 +71,23 @@ module _ {A : Type 0} (acts : Acts A) where
       message later (Ok m) goes = said later m (is_leaving m) goes
 
   -- a mark is what the packets say of it
-  pub marks : (wid : ℕ) (mark_of : A → Bool) → Marks acts wid mark_of → (a : A) (n : ℕ) (packets : List Packet) (fault : Option Fault) → (handled acts (Some a) n packets fault).ended ≡ None
-      → (b : A) → (handled acts (Some a) n packets fault).attached ≡ Some b → mark_of b ≡ marked wid (mark_of a) (heard fault packets).said
+  pub marks : (wid : ℕ) (mark_of : A → Option Bool) → Marks acts wid mark_of → (a : A) (was : Bool) → mark_of a ≡ Some was → (n : ℕ) (packets : List Packet) (fault : Option Fault) → (handled acts (Some a) n packets fault).ended ≡ None
+      → (b : A) → (handled acts (Some a) n packets fault).attached ≡ Some b → mark_of b ≡ Some (marked wid was (heard fault packets).said)
   unfolding handled
-  marks wid mark_of has a n [] None goes b is = ap mark_of (cc is)
-  marks wid mark_of has a n [] (Some f) goes b is = absurd (cc)
-  marks wid mark_of has a n (p ∷ packets) fault goes b is = message (λ c k on same. marks wid mark_of has c k packets fault on b same) (from_client p.value) goes is
+  marks wid mark_of has a was before n [] None goes b is = ap mark_of (sym (let same : a ≡ b = cc is in same)) ∙ before
+  marks wid mark_of has a was before n [] (Some f) goes b is = absurd (cc)
+  marks wid mark_of has a was before n (p ∷ packets) fault goes b is = message (λ c mark there k on same. marks wid mark_of has c mark there k packets fault on b same) (from_client p.value) goes is
     where
       Later : Type 0
-      Later = (c : A) (k : ℕ) → (handled acts (Some c) k packets fault).ended ≡ None → (handled acts (Some c) k packets fault).attached ≡ Some b
-          → mark_of b ≡ marked wid (mark_of c) (heard fault packets).said
+      Later = (c : A) (mark : Bool) → mark_of c ≡ Some mark → (k : ℕ) → (handled acts (Some c) k packets fault).ended ≡ None → (handled acts (Some c) k packets fault).attached ≡ Some b
+          → mark_of b ≡ Some (marked wid mark (heard fault packets).said)
 
       said : Later → (m : FromClient) (leaves : Bool) → (after_said acts a n m leaves (λ s k. handled acts s k packets fault)).ended ≡ None
-          → (after_said acts a n m leaves (λ s k. handled acts s k packets fault)).attached ≡ Some b → mark_of b ≡ marked wid (mark_of a) (heard_or_shape p.place (Ok m) (heard fault packets)).said
+          → (after_said acts a n m leaves (λ s k. handled acts s k packets fault)).attached ≡ Some b → mark_of b ≡ Some (marked wid was (heard_or_shape p.place (Ok m) (heard fault packets)).said)
       said later m true goes is = absurd (cc)
-      said later m false goes is =
-          later (acts.act m a) (if acts.ignores m a then n + 1 else n) goes is
-          ∙ ap (λ was. marked wid was (heard fault packets).said) (has m a)
+      said later m false goes is = later (acts.act m a) (mark_after wid was m) (has m a was before) (if acts.ignores m a then n + 1 else n) goes is
 
       message : Later → (r : Result FromClient ℕ) → (after_message acts a n p.place r (λ s k. handled acts s k packets fault)).ended ≡ None
-          → (after_message acts a n p.place r (λ s k. handled acts s k packets fault)).attached ≡ Some b → mark_of b ≡ marked wid (mark_of a) (heard_or_shape p.place r (heard fault packets)).said
+          → (after_message acts a n p.place r (λ s k. handled acts s k packets fault)).attached ≡ Some b → mark_of b ≡ Some (marked wid was (heard_or_shape p.place r (heard fault packets)).said)
       message later (Err i) goes is = absurd (cc)
       message later (Ok m) goes is = said later m (is_leaving m) goes is

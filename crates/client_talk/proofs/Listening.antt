@@ -111,19 +111,19 @@ module _ {A : Type 0} (acts : Acts A) (caps_of : A → Caps) (has : HasCaps acts
   ends_so packets (Some a) n ps fault e goes on = some_ends packets a n ps fault e goes on
 
   -- what is said more, and what becomes of a mark
-  abbrev pub SaysMore : ℕ → (A → Bool) → Bool → A → Talk → Talk → Type 0
-  SaysMore wid mark_of was a old new = (more : List Said) × (new.said ≡ old.said ++ more) × (mark_of a ≡ marked wid was more)
+  abbrev pub SaysMore : ℕ → (A → Option Bool) → Bool → A → Talk → Talk → Type 0
+  SaysMore wid mark_of was a old new = (more : List Said) × (new.said ≡ old.said ++ more) × (mark_of a ≡ Some (marked wid was more))
 
-  some_says : (wid : ℕ) (mark_of : A → Bool) (was : Bool) → Marks acts wid mark_of → (packets : List Packet) (a : A) (n : ℕ) (ps : List Packet) (fault : Option Fault) (b : A)
-      → mark_of a ≡ was → GoesOn (Some (caps_of a)) (talk_of None packets) → (handled acts (Some a) n ps fault).ended ≡ None → (handled acts (Some a) n ps fault).attached ≡ Some b
+  some_says : (wid : ℕ) (mark_of : A → Option Bool) (was : Bool) → Marks acts wid mark_of → (packets : List Packet) (a : A) (n : ℕ) (ps : List Packet) (fault : Option Fault) (b : A)
+      → mark_of a ≡ Some was → GoesOn (Some (caps_of a)) (talk_of None packets) → (handled acts (Some a) n ps fault).ended ≡ None → (handled acts (Some a) n ps fault).attached ≡ Some b
       → SaysMore wid mark_of was b (talk_of None packets) (talk_of fault (packets ++ ps))
   some_says wid mark_of was marking packets a n ps fault b before goes on is = (
     (heard fault ps).said,
     ap (λ (t : Talk). t.said) (attached_talk packets a ps fault goes),
-    marks acts wid mark_of marking a n ps fault on b is ∙ ap (λ c. marked wid c (heard fault ps).said) before,
+    marks acts wid mark_of marking a was before n ps fault on b is,
   )
 
-  none_says : (wid : ℕ) (mark_of : A → Bool) (was : Bool) → Marks acts wid mark_of → (n : ℕ) (ps : List Packet) (fault : Option Fault) (b : A)
+  none_says : (wid : ℕ) (mark_of : A → Option Bool) (was : Bool) → Marks acts wid mark_of → (n : ℕ) (ps : List Packet) (fault : Option Fault) (b : A)
       → MarkBefore acts mark_of None was → (handled acts None n ps fault).ended ≡ None → (handled acts None n ps fault).attached ≡ Some b
       → SaysMore wid mark_of was b (talk_of None []) (talk_of fault ps)
   unfolding handled
@@ -136,7 +136,7 @@ module _ {A : Type 0} (acts : Acts A) (caps_of : A → Caps) (has : HasCaps acts
       greets (Err f) here on is = absurd (cc on)
       greets (Ok caps) here on is = some_says wid mark_of was marking (p ∷ []) (acts.attach caps) n ps fault b (before caps) (greeted_talk p caps here) on is
 
-  pub says_more : (wid : ℕ) (mark_of : A → Bool) (was : Bool) → Marks acts wid mark_of → (packets : List Packet) (attached : Option A) (n : ℕ) (ps : List Packet) (fault : Option Fault) (b : A)
+  pub says_more : (wid : ℕ) (mark_of : A → Option Bool) (was : Bool) → Marks acts wid mark_of → (packets : List Packet) (attached : Option A) (n : ℕ) (ps : List Packet) (fault : Option Fault) (b : A)
       → MarkBefore acts mark_of attached was → GoesOn (option_map caps_of attached) (talk_of None packets) → (handled acts attached n ps fault).ended ≡ None → (handled acts attached n ps fault).attached ≡ Some b
       → SaysMore wid mark_of was b (talk_of None packets) (talk_of fault (packets ++ ps))
   says_more wid mark_of was marking packets None n ps fault b before goes on is =

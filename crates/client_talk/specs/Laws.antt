@@ -26,21 +26,21 @@ abbrev pub EndsForItsCause : Type 0 → Type 0
 EndsForItsCause A = (acts : Acts A) (caps_of : A → Caps) (given bytes : List ℕ) (f : Framing) (attached attached' : Option A) (ending : Ending) (ignored : ℕ) → HasCaps acts caps_of
     → IsListening given f (option_map caps_of attached) → EndsHearing acts f attached bytes ending attached' ignored → HasEnding ending (talk server_limit (given ++ bytes))
 
--- a window's mark in a client, and what messages make of it
-abbrev pub Marks : {A : Type 0} → Acts A → ℕ → (A → Bool) → Type 0
-Marks {A = A} acts wid mark_of = (m : FromClient) (a : A) → mark_of (acts.act m a) ≡ mark_after wid (mark_of a) m
+-- a window's mark in a client that has the window, and what messages make of it
+abbrev pub Marks : {A : Type 0} → Acts A → ℕ → (A → Option Bool) → Type 0
+Marks {A = A} acts wid mark_of = (m : FromClient) (a : A) (mark : Bool) → mark_of a ≡ Some mark → mark_of (acts.act m a) ≡ Some (mark_after wid mark m)
 
 -- the mark before a read: that of the client, or of what its hello makes of it
-abbrev pub MarkBefore : {A : Type 0} → Acts A → (A → Bool) → Option A → Bool → Type 0
-MarkBefore acts mark_of None was = (caps : Caps) → mark_of (acts.attach caps) ≡ was
-MarkBefore acts mark_of (Some a) was = mark_of a ≡ was
+abbrev pub MarkBefore : {A : Type 0} → Acts A → (A → Option Bool) → Option A → Bool → Type 0
+MarkBefore acts mark_of None was = (caps : Caps) → mark_of (acts.attach caps) ≡ Some was
+MarkBefore acts mark_of (Some a) was = mark_of a ≡ Some was
 
 -- a read says some messages more, and the mark is what they make of it
 abbrev pub MarksFollow : Type 0 → Type 0
-MarksFollow A = (acts : Acts A) (caps_of : A → Caps) (wid : ℕ) (mark_of : A → Bool) (was : Bool) (given bytes : List ℕ) (f f' : Framing) (attached : Option A) (a : A) (ignored : ℕ)
+MarksFollow A = (acts : Acts A) (caps_of : A → Caps) (wid : ℕ) (mark_of : A → Option Bool) (was : Bool) (given bytes : List ℕ) (f f' : Framing) (attached : Option A) (a : A) (ignored : ℕ)
     → HasCaps acts caps_of → Marks acts wid mark_of → MarkBefore acts mark_of attached was
     → IsListening given f (option_map caps_of attached) → Hears acts f attached bytes f' (Some a) ignored
-    → (more : List Said) × ((talk server_limit (given ++ bytes)).said ≡ (talk server_limit given).said ++ more) × (mark_of a ≡ marked wid was more)
+    → (more : List Said) × ((talk server_limit (given ++ bytes)).said ≡ (talk server_limit given).said ++ more) × (mark_of a ≡ Some (marked wid was more))
 
 -- a window begins unmarked, where the client was never shown it
 abbrev pub MarkBegins : Type 0
