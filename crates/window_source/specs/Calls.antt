@@ -1,9 +1,9 @@
 -- What the calls of a source come to: each is an event of the model.
-use Rattle.std.specs.Prelude.{ℕ, ℤ, pos, negsuc, ◌≡◌, ◌≤◌, ◌<ℤ◌, ◌<◌, ◌^◌, Bool, true, false, ◌||◌, Option, Some, None, List}
+use Rattle.std.specs.Prelude.{ℕ, ℤ, pos, negsuc, ◌≡◌, Bool, true, false, ◌||◌}
 use Rattle.xp_base.specs.Points.{Rectangle, is_in, is_within, whole}
 use Rattle.delivery_model.specs.Grids.{Points, points, has}
 use Rattle.delivery_model.specs.Window.{Window}
-use Rattle.delivery_model.specs.Events.{damaged, unmapped, given_back, acknowledged}
+use Rattle.delivery_model.specs.Events.{damaged, acknowledged}
 use Rattle.window_source.specs.Source.{SourceSeen, after}
 
 -- the points of a region, in the window of this source

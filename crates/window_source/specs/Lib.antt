@@ -1,3 +1,4 @@
 pub mod Source
+pub mod Kept
 pub mod Waiting
 pub mod Calls

@@ -1,8 +1,7 @@
 -- A packet that waits, with the message that its bytes are, and, where that is a draw, the pixels of which it is the coding.
-use Rattle.std.specs.Prelude.{ℕ, pos, ◌≡◌, ◌==◌, ◌&&◌, true, if◌then◌else◌, Option, Some, None, Ok, List, [], ◌∷◌, map, length}
+use Rattle.std.specs.Prelude.{ℕ, pos, ◌≡◌, ◌==◌, true, if◌then◌else◌, Option, Some, None, List, [], ◌∷◌, map, length}
 use Rattle.std.specs.List.{flat_map}
-use Rattle.xp_base.specs.Points.{Rectangle, area, is_in, is_within}
-use Rattle.xp_base.specs.declared.coding.Coding.{Coding}
+use Rattle.xp_base.specs.Points.{Rectangle, area, is_within}
 use Rattle.rgb_encoders.specs.Colour.{expansion, lossy_number}
 use Rattle.rgb_encoders.specs.Decoded.{decoded}
 use Rattle.rect_regions.specs.PointSets.{has, HasNone}
