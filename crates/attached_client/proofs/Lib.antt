@@ -1,0 +1,9 @@
+pub mod Messages
+pub mod Actings
+pub mod Attachings
+pub mod Marking
+pub mod Places
+pub mod Does
+pub mod Damages
+pub mod Begun
+pub mod Pixels

@@ -1,0 +1,5 @@
+pub mod Client
+pub mod Acting
+pub mod Painting
+pub mod Sending
+pub mod Laws
