@@ -1,0 +1,3 @@
+pub mod Hearings
+pub mod Keeping
+pub mod Packets

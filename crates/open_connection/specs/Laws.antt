@@ -1,0 +1,35 @@
+-- What is kept of a connection while its bytes are read.
+use Rattle.std.specs.Prelude.{ℕ, ◌≡◌, Bool, Option, Some, None, List, [], ◌++◌}
+use Rattle.packet_frames.specs.Stream.{Packet, Fault}
+use Rattle.window_model.specs.Desktop.{Window, IsDesktop}
+use Rattle.packet_kinds.specs.Talk.{talk}
+use Rattle.client_talk.specs.declared.ending.Ending.{Ending}
+use Rattle.client_talk.specs.Talked.{server_limit, HasEnding}
+use Rattle.client_talk.specs.Handling.{handled}
+use Rattle.client_talk.specs.Kept.{Hears, EndsHearing}
+use Rattle.client_delivery.specs.Delivered.{IsTold}
+use Rattle.client_delivery.specs.Keeping.{HoldsDesk}
+use Rattle.attached_client.specs.Client.{ClientSeen}
+use Rattle.attached_client.specs.Acting.{acts}
+use Rattle.open_connection.specs.Connection.{ConnectionSeen, IsListeningTo}
+
+-- the bytes given so far, and what is kept of what they said
+abbrev pub HearingListens : Type 0
+HearingListens = (desk : List Window) (conn now : ℕ) (given piece : List ℕ) (old new : ConnectionSeen) (ignored : ℕ) → IsListeningTo given old
+    → Hears (acts desk conn now) old.framing old.client piece new.framing new.client ignored → IsListeningTo (given ++ piece) new
+
+-- what ends a connection is said by the bytes given so far
+abbrev pub HearingEnds : Type 0
+HearingEnds = (desk : List Window) (conn now : ℕ) (given piece : List ℕ) (old : ConnectionSeen) (client : Option ClientSeen) (ending : Ending) (ignored : ℕ) → IsListeningTo given old
+    → EndsHearing (acts desk conn now) old.framing old.client piece ending client ignored → HasEnding ending (talk server_limit (given ++ piece))
+
+-- What is kept of a connection's client and the bytes sent: nothing is sent before its hello was accepted; then each of its windows
+-- is the model's.
+abbrev pub IsToldTo : List Window → (ℕ → Bool) → ℕ → Option ClientSeen → List ℕ → Type 0
+IsToldTo desk were_opened conn None sent = sent ≡ []
+IsToldTo desk were_opened conn (Some c) sent = (c.conn ≡ conn) × IsTold desk were_opened c.seen sent
+
+-- whatever packets come, and whether or not they end the talk
+abbrev pub HearingTells : Type 0
+HearingTells = (desk : List Window) (were_opened : ℕ → Bool) (conn now : ℕ) (sent : List ℕ) (client : Option ClientSeen) (packets : List Packet) (fault : Option Fault) → IsDesktop desk → HoldsDesk desk were_opened
+    → IsToldTo desk were_opened conn client sent → let outcome = handled (acts desk conn now) client 0 packets fault in IsToldTo desk were_opened conn outcome.attached sent

@@ -1,0 +1,39 @@
+// What is kept of a connection while its bytes are read. Each law makes the calls of the laws that it stands on.
+ghost use Rattle.open_connection.specs.Laws.{HearingListens, HearingEnds, HearingTells};
+
+use attached_client::{Attached, a_new_client_attaches, acting_keeps_what_is_told};
+use client_delivery::a_client_that_attaches_is_told;
+use client_talk::{an_ending_has_its_cause, the_talk_goes_on};
+use std::marker::Model;
+
+/// A client whatever room it has, for laws alone.
+#[derive(Drop)]
+struct Plain {
+    client: Attached,
+}
+
+impl Model for Plain {
+    ghost use Rattle.attached_client.specs.Client.{ClientSeen};
+
+    ghost Value = { ClientSeen };
+
+    ghost view = { λ p. p.client.client };
+}
+
+/// The packets handled are those of the bytes given, and what ends a connection is said by these.
+pub fn what_is_heard_is_what_was_given()
+    ensures goes_on { HearingListens }
+    ensures ends { HearingEnds }
+{
+    the_talk_goes_on::<Plain>();
+    an_ending_has_its_cause::<Plain>();
+}
+
+/// Whatever is heard, each window of the client stays the model's.
+pub fn hearing_keeps_what_is_told()
+    ensures { HearingTells }
+{
+    a_client_that_attaches_is_told();
+    a_new_client_attaches();
+    acting_keeps_what_is_told();
+}

@@ -1,0 +1,11 @@
+//! A connection that is open: what of its bytes is no whole packet yet and, once its hello was accepted, its client.
+#![tactic(auto)]
+
+mod connection;
+mod heard;
+mod laws;
+mod step;
+
+pub use connection::Connection;
+pub use heard::Heard;
+pub use laws::{hearing_keeps_what_is_told, what_is_heard_is_what_was_given};
