@@ -1,11 +1,11 @@
 -- A batch as a part of the model's window, from call to call. What is known of sets made point by point are laws of `delivery_model`.
 use Rattle.std.proofs.Common.{◌≡◌, ℕ, ◌+◌, ◌≤◌, Bool, true, false, ◌&&◌, ◌||◌, inl, inr, refl, sym, ◌∙◌, ap, subst, arith, cond}
-use Rattle.std.specs.Prelude.{not, nat_lt}
+use Rattle.std.specs.Prelude.{min, ◌-◌, nat_le, not, nat_lt}
 use Rattle.std.proofs.lemmas.Bool.{cases_Bool, false≢true, lt-ltb}
 use Rattle.std.proofs.lemmas.Bool.Decides.{nat_tests}
 use Rattle.xp_base.specs.declared.due.Due.{Due}
 use Rattle.xp_base.specs.declared.due.Due.TheVariants as D
-use Rattle.xp_base.specs.Points.{Rectangle, LiesIn, is_in, is_within, whole}
+use Rattle.xp_base.specs.Points.{Rectangle, LiesIn, is_in, is_within, clip, whole}
 use Rattle.rect_regions.specs.PointSets.{SamePoints, HasNone, united}
 use Rattle.rect_regions.specs.BitRows.{AllWithin}
 use Rattle.delivery_model.specs.Grids.{Points, Grid, points, has as has_mark}
@@ -24,6 +24,31 @@ pub record PointLaws : Type 0 where
 
 lies_within : (wide high : ℕ) (r : Rectangle) (x y : ℕ) → LiesIn wide high r → is_in r x y ≡ true → is_within wide high x y ≡ true
 lies_within wide high r x y lies inside = let across = lies.across in let down = lies.down in grind (arith, nat_tests)
+
+-- a side of a rectangle, clipped
+side_clipped : (from size most at : ℕ) → (nat_le from at && nat_lt at (from + (min (from + size) most - from))) ≡ ((nat_le from at && nat_lt at (from + size)) && nat_lt at most)
+side_clipped from size most at = grind (arith, nat_tests)
+
+and_swapped : (a b c d : Bool) → ((a && c) && (b && d)) ≡ ((a && b) && (c && d))
+and_swapped false b c d = refl
+and_swapped true true c d = refl
+and_swapped true false true d = refl
+and_swapped true false false d = refl
+
+clip_has : (wide high : ℕ) (r : Rectangle) (x y : ℕ) → is_in (clip wide high r) x y ≡ (is_in r x y && is_within wide high x y)
+clip_has wide high r x y = rw (side_clipped r.x r.w wide x, side_clipped r.y r.h high y) (and_swapped (nat_le r.x x && nat_lt x (r.x + r.w)) (nat_le r.y y && nat_lt y (r.y + r.h)) (nat_lt x wide) (nat_lt y high))
+
+right_of_and : (b c : Bool) → (b && c) ≡ true → c ≡ true
+right_of_and true c both = both
+right_of_and false c both = absurd (false≢true both)
+
+and_true : (b : Bool) → (b && true) ≡ b
+and_true true = refl
+and_true false = refl
+
+or_nothing : (b : Bool) → (b || false) ≡ b
+or_nothing true = refl
+or_nothing false = refl
 
 not_lt : (m n : ℕ) → n ≤ m → nat_lt m n ≡ false
 not_lt m n least = grind (arith, nat_tests)
@@ -72,25 +97,45 @@ module _ (laws : PointLaws) where
           delay = of.delay ∙ sym (ap (λ (b : BatchSeen R). b.delay) puts.kept);
         }
 
-    more_within : (wide high : ℕ) (r : Rectangle) (before pending : R) → AllWithin wide high (has before) → LiesIn wide high r → SamePoints (has pending) (united (has before) (is_in r)) → AllWithin wide high (has pending)
-    more_within wide high r before pending within lies more x y there = elim (cases_Bool (has before x y)) [
+    more_within : (wide high : ℕ) (part : ℕ → ℕ → Bool) (before pending : R) → AllWithin wide high (has before) → AllWithin wide high part → SamePoints (has pending) (united (has before) part) → AllWithin wide high (has pending)
+    more_within wide high part before pending within inside more x y there = elim (cases_Bool (has before x y)) [
       | inl was ↦ within x y was
-      | inr was ↦ lies_within wide high r x y lies (rw was at (sym (more x y) ∙ there))
+      | inr was ↦ inside x y (rw was at (sym (more x y) ∙ there))
     ]
 
-    same_damage : (wide high : ℕ) (set : Points) (r : Rectangle) (before pending : R) → set ≡ points wide high (has before) → SamePoints (has pending) (united (has before) (is_in r))
-        → (x y : ℕ) → is_within wide high x y ≡ true → (has_mark set x y || is_in r x y) ≡ has pending x y
-    same_damage wide high set r before pending is more x y inside = rw (is, laws.have wide high (has before) x y, inside, more x y) refl
+    same_damage : (wide high : ℕ) (set : Points) (r : Rectangle) (part : ℕ → ℕ → Bool) (before pending : R) (x y : ℕ) → set ≡ points wide high (has before) → SamePoints (has pending) (united (has before) part)
+        → part x y ≡ is_in r x y → is_within wide high x y ≡ true → (has_mark set x y || is_in r x y) ≡ has pending x y
+    same_damage wide high set r part before pending x y is more same inside = rw (is, laws.have wide high (has before) x y, inside, more x y, same) refl
 
-    pub damage_pends : (r : Rectangle) (now : ℕ) (w : Window) (old new : BatchSeen R) (pending : R) → IsBatchOf has w.desk.wide w.desk.high old w → LiesIn w.desk.wide w.desk.high r
-        → SamePoints (has pending) (united (has old.pending) (is_in r)) → Puts has old pending now new → IsBatchOf has w.desk.wide w.desk.high new (damaged r now w)
-    damage_pends r now w old new pending of lies more puts =
+    -- a part of the window that is the rectangle's
+    part_pends : (r : Rectangle) (part : ℕ → ℕ → Bool) (now : ℕ) (w : Window) (old new : BatchSeen R) (pending : R) → IsBatchOf has w.desk.wide w.desk.high old w → AllWithin w.desk.wide w.desk.high part
+        → ((x y : ℕ) → is_within w.desk.wide w.desk.high x y ≡ true → part x y ≡ is_in r x y) → SamePoints (has pending) (united (has old.pending) part) → Puts has old pending now new
+        → IsBatchOf has w.desk.wide w.desk.high new (damaged r now w)
+    part_pends r part now w old new pending of inside same more puts =
         let wide : ℕ = w.desk.wide in
         let high : ℕ = w.desk.high in
         let test : ℕ → ℕ → Bool = λ x y. has_mark w.pending x y || is_in r x y in
-        let same : points wide high test ≡ points wide high (has pending) = laws.alike wide high test (has pending) (same_damage wide high w.pending r old.pending pending of.pending more) in
-        let put = put_pends wide high wide high now w old new pending of (more_within wide high r old.pending pending of.within lies more) puts in
-        subst (λ (s : Points). IsBatchOf has wide high new (put_pending s now w)) (sym same) put
+        let alike : points wide high test ≡ points wide high (has pending) = laws.alike wide high test (has pending) (λ x y there. same_damage wide high w.pending r part old.pending pending x y of.pending more (same x y there) there) in
+        let put = put_pends wide high wide high now w old new pending of (more_within wide high part old.pending pending of.within inside more) puts in
+        subst (λ (s : Points). IsBatchOf has wide high new (put_pending s now w)) (sym alike) put
+
+    pub damage_pends : (r : Rectangle) (now : ℕ) (w : Window) (old new : BatchSeen R) (pending : R) → IsBatchOf has w.desk.wide w.desk.high old w → LiesIn w.desk.wide w.desk.high r
+        → SamePoints (has pending) (united (has old.pending) (is_in r)) → Puts has old pending now new → IsBatchOf has w.desk.wide w.desk.high new (damaged r now w)
+    damage_pends r now w old new pending of lies more puts = part_pends r (is_in r) now w old new pending of (λ x y there. lies_within w.desk.wide w.desk.high r x y lies there) (λ x y there. refl) more puts
+
+    pub clipped_pends : (r : Rectangle) (now : ℕ) (w : Window) (old new : BatchSeen R) (pending : R) → IsBatchOf has w.desk.wide w.desk.high old w
+        → SamePoints (has pending) (united (has old.pending) (is_in (clip w.desk.wide w.desk.high r))) → Puts has old pending now new → IsBatchOf has w.desk.wide w.desk.high new (damaged r now w)
+    clipped_pends r now w old new pending of more puts =
+        let wide : ℕ = w.desk.wide in
+        let high : ℕ = w.desk.high in
+        part_pends r (is_in (clip wide high r)) now w old new pending of
+        (λ x y there. right_of_and (is_in r x y) (is_within wide high x y) (sym (clip_has wide high r x y) ∙ there))
+        (λ x y there. clip_has wide high r x y ∙ (ap (λ (b : Bool). is_in r x y && b) there ∙ and_true (is_in r x y))) more puts
+
+    pub beside_none : (r : Rectangle) (now : ℕ) (w : Window) (b : BatchSeen R) → IsBatchOf has w.desk.wide w.desk.high b w → HasNone (is_in (clip w.desk.wide w.desk.high r)) → IsBatchOf has w.desk.wide w.desk.high b (damaged r now w)
+    beside_none r now w b of none = clipped_pends r now w b b b.pending of
+        (λ x y. sym (ap (λ (p : Bool). has b.pending x y || p) (none x y) ∙ or_nothing (has b.pending x y)))
+        (record { kept = refl; since = record { begins = λ empty some. absurd (some empty); goes_on = λ some. refl; nothing = λ empty. refl } })
 
     fresh_has : (wide high : ℕ) (fresh pending : R) → HasNone (has fresh) → SamePoints (has pending) (united (has fresh) (is_in (whole wide high))) → (x y : ℕ) → has pending x y ≡ is_within wide high x y
     fresh_has wide high fresh pending none more x y = rw (more x y, none x y) (whole_is_within wide high x y)

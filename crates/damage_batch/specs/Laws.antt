@@ -1,7 +1,7 @@
 -- What the calls of a batch come to in the model's window: where its part of the window was the batch before, it is the batch after.
 use Rattle.std.specs.Prelude.{ℕ, ◌≡◌, ◌+◌, Bool, List, length}
 use Rattle.xp_base.specs.declared.due.Due.{Due}
-use Rattle.xp_base.specs.Points.{Rectangle, LiesIn, is_in, whole}
+use Rattle.xp_base.specs.Points.{Rectangle, LiesIn, is_in, clip, whole}
 use Rattle.rect_regions.specs.PointSets.{SamePoints, HasNone, united}
 use Rattle.rect_regions.specs.BitRows.{AllWithin}
 use Rattle.delivery_model.specs.Grids.{Grid, points}
@@ -30,6 +30,19 @@ DamageIsPending {R} has =
     (r : Rectangle) (now : ℕ) (w : Window) (old new : BatchSeen R) (pending : R) → IsBatchOf has w.desk.wide w.desk.high old w
     → LiesIn w.desk.wide w.desk.high r → SamePoints (has pending) (united (has old.pending) (is_in r)) → Puts has old pending now new
     → IsBatchOf has w.desk.wide w.desk.high new (damaged r now w)
+
+-- a rectangle's part of the window put in, where it may reach beyond the window
+abbrev pub ClippedDamageIsPending : {R : Type 0} → (R → ℕ → ℕ → Bool) → Type 0
+ClippedDamageIsPending {R} has =
+    (r : Rectangle) (now : ℕ) (w : Window) (old new : BatchSeen R) (pending : R) → IsBatchOf has w.desk.wide w.desk.high old w
+    → SamePoints (has pending) (united (has old.pending) (is_in (clip w.desk.wide w.desk.high r))) → Puts has old pending now new
+    → IsBatchOf has w.desk.wide w.desk.high new (damaged r now w)
+
+-- damage beside the window
+abbrev pub DamageBesideIsNone : {R : Type 0} → (R → ℕ → ℕ → Bool) → Type 0
+DamageBesideIsNone {R} has =
+    (r : Rectangle) (now : ℕ) (w : Window) (b : BatchSeen R) → IsBatchOf has w.desk.wide w.desk.high b w
+    → HasNone (is_in (clip w.desk.wide w.desk.high r)) → IsBatchOf has w.desk.wide w.desk.high b (damaged r now w)
 
 -- a capture of what is pending
 abbrev pub CaptureEmpties : {R : Type 0} → (R → ℕ → ℕ → Bool) → Type 0

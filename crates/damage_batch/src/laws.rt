@@ -1,6 +1,6 @@
 // What the calls of a batch come to in the model's window, each law the clause of a function that at most cites others.
-ghost use Rattle.damage_batch.specs.Laws.{StartIsWhole, PutIsPending, DamageIsPending, CaptureEmpties, RefreshLeavesNone};
-ghost use Rattle.damage_batch.specs.Laws.{AcknowledgementQuickens, DueIsTold};
+ghost use Rattle.damage_batch.specs.Laws.{StartIsWhole, PutIsPending, DamageIsPending, ClippedDamageIsPending, DamageBesideIsNone};
+ghost use Rattle.damage_batch.specs.Laws.{CaptureEmpties, RefreshLeavesNone, AcknowledgementQuickens, DueIsTold};
 
 use delivery_model::{empty_sets_have_no_point, points_are_their_tests};
 use rect_regions::Points;
@@ -13,10 +13,13 @@ pub fn a_start_is_whole<R: Points>()
     empty_sets_have_no_point();
 }
 
-/// Points that are put in are pending, and a rectangle so put in is damage.
+/// Points that are put in are pending, and a rectangle so put in is damage: all of it where it lies in the
+/// window, and else its part of the window; where that is empty nothing changes.
 pub fn damage_is_pending<R: Points>()
     ensures put { PutIsPending R.has }
     ensures damaged { DamageIsPending R.has }
+    ensures clipped { ClippedDamageIsPending R.has }
+    ensures beside { DamageBesideIsNone R.has }
 {
     points_are_their_tests();
     empty_sets_have_no_point();
