@@ -1,11 +1,10 @@
 -- What plans come to, rectangle by rectangle.
-use Rattle.std.proofs.Common.{◌≡◌, ℕ, ◌+◌, ◌-◌, ◌<◌, ◌≤◌, Bool, true, false, ◌||◌, List, [], ◌∷◌, length, All, ◌⊎◌, ⊎_elim, refl, sym, ap, ◌∙◌, subst, arith, true≢false}
+use Rattle.std.proofs.Common.{◌≡◌, ℕ, ◌+◌, ◌-◌, ◌<◌, ◌≤◌, Bool, true, false, ◌||◌, List, [], ◌∷◌, length, All, ⊎_elim, refl, sym, ap, ◌∙◌, subst, arith, true≢false}
 use Rattle.std.specs.List.{list_any}
 use Rattle.std.proofs.lemmas.Bool.{cases_lt}
 use Rattle.std.proofs.lemmas.List.{length-map}
 use Rattle.std.proofs.lemmas.Bool.Decides.{nat_tests}
 use Rattle.std.proofs.lemmas.List.Elements.{All-nil, All-cons, All-weaker}
-use Rattle.xp_base.specs.declared.coding.Coding.{Coding}
 use Rattle.xp_base.specs.declared.coding.Coding.TheVariants as C
 use Rattle.xp_base.specs.Points.{Rectangle, IsRectangle, LiesIn, is_in, is_within}
 use Rattle.rect_regions.specs.PointSets.{has, SamePoints, HasNone, IsBounds}
@@ -16,7 +15,7 @@ use Rattle.delivery_model.specs.Window.{Window}
 use Rattle.delivery_model.specs.Events.{Planned, is_empty, region_taken}
 use Rattle.delivery_model.specs.Plans.{AreApart, IsPlan}
 use Rattle.delivery_model.specs.Point.{is_exact}
-use Rattle.capture_jobs.specs.Planning.{coding_for, planned_for, one_each, one_exact, IsBounding, IsPlanOf}
+use Rattle.capture_jobs.specs.Planning.{coding_for, planned_for, one_each, one_exact, IsPlanOf}
 
 -- of two rectangles one of which goes before the other none has a point of the other
 apart_two : (r s : Rectangle) (x y : ℕ) → GoesBefore r s → is_in r x y ≡ true → is_in s x y ≡ false

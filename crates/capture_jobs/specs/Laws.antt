@@ -1,5 +1,5 @@
 -- What plans come to.
-use Rattle.std.specs.Prelude.{ℕ, ◌≡◌, ◌≤◌, Bool, List, length}
+use Rattle.std.specs.Prelude.{ℕ, ◌≤◌, Bool, List, length}
 use Rattle.rect_regions.specs.PointSets.{SamePoints}
 use Rattle.rect_regions.specs.BitRows.{AllWithin}
 use Rattle.delivery_model.specs.Grids.{has}

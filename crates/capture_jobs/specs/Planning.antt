@@ -1,9 +1,9 @@
 -- The plan of a capture: which rectangles of a set of points are captured, and how each is coded. This project's own.
-use Rattle.std.specs.Prelude.{ℕ, ◌≡◌, ◌<◌, ◌≤◌, Bool, true, ◌&&◌, not, nat_le, List, [], ◌∷◌, map, length, if◌then◌else◌, ◌⊎◌}
+use Rattle.std.specs.Prelude.{ℕ, ◌≡◌, ◌<◌, ◌≤◌, Bool, ◌&&◌, not, nat_le, List, [], ◌∷◌, map, length, if◌then◌else◌}
 use Rattle.xp_base.specs.declared.coding.Coding.{Coding}
 use Rattle.xp_base.specs.declared.coding.Coding.TheVariants as C
 use Rattle.xp_base.specs.Points.{Rectangle, area}
-use Rattle.rect_regions.specs.PointSets.{HasNone, IsBounds}
+use Rattle.rect_regions.specs.PointSets.{IsBounds}
 use Rattle.rect_regions.specs.Bands.{IsRowBands}
 use Rattle.delivery_model.specs.Events.{Planned}
 

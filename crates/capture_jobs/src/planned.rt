@@ -5,7 +5,7 @@ use std::marker::Model;
 use xp_base::{Coding, Rect};
 
 /// A rectangle of the window that is to be captured, and how its pixels are to be coded.
-#[derive(Clone, Copy, PartialEq, Eq)]
+#[derive(Clone, Copy)]
 pub struct Planned {
     pub rect: Rect,
     pub coding: Coding,

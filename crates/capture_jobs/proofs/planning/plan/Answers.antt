@@ -1,4 +1,4 @@
-use Rattle.std.proofs.Common.{ℕ, ◌<◌, List, length, subst, arith}
+use Rattle.std.proofs.Common.{◌<◌, List, length, subst, arith}
 use Rattle.xp_base.specs.Points.{Rectangle}
 use Rattle.capture_jobs.proofs.PlanningLemmas.{some_point}
 use Rattle.capture_jobs.proofs.planning.plan.Goals as goal
