@@ -5,8 +5,8 @@ use mathlib.Core.Option.{some}
 use lib.ListN.{get_elem?}
 use Rattle.xp_base.specs.Lists.{IsSubsequence}
 use Rattle.capture_jobs.specs.Jobs.{EncodingJob}
-use Rattle.encode_pool.specs.Counting.{how_many, how_many_in, total}
-use Rattle.encode_pool.specs.QueueRule.{further, with_joined, Conserves, IsMoment, HeldSoMany}
+use Rattle.encode_pool.specs.Counting.{how_many, how_many_in}
+use Rattle.encode_pool.specs.QueueRule.{further, with_joined, IsMoment, HeldSoMany}
 use Rattle.encode_pool.specs.Passes.{AllCameOut, AllOutIfNone}
 use Rattle.encode_pool.specs.declared.queue_view.Standing.TheVariants as S
 use Rattle.encode_pool.specs.declared.queue_view.QueueView.{QueueView}

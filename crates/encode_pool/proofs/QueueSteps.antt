@@ -1,17 +1,16 @@
 -- Each kind of step keeps the rule of the queue of jobs.
-use Rattle.std.proofs.Common.{◌≡◌, ◌≢◌, ℕ, zero, suc, ◌+◌, ◌-◌, ◌<◌, Bool, true, false, true≢false, List, [], ◌∷◌, ◌++◌, length, set, sym, refl, ap, ◌∙◌, subst, ◌⊎◌, inl, inr, ⊎_elim, append_assoc, arith}
+use Rattle.std.proofs.Common.{◌≡◌, ◌≢◌, ℕ, zero, suc, ◌+◌, ◌-◌, Bool, true, false, true≢false, List, [], ◌∷◌, ◌++◌, set, sym, refl, ap, ◌∙◌, subst, ◌⊎◌, inl, inr, ⊎_elim, append_assoc, arith}
 use mathlib.Core.Option.{some, some-injective, some-ne-none}
 use lib.ListN.{get_elem?}
 use Rattle.crossbeam_queue.specs.Fifo.{Pushes, Pops, Forks, Merges, Learns}
 use Rattle.crossbeam_queue.proofs.Lists.{at_set, at_snoc}
-use Rattle.xp_base.specs.Lists.{IsSubsequence}
 use Rattle.capture_jobs.specs.Jobs.{EncodingJob}
-use Rattle.encode_pool.specs.Counting.{how_many, how_many_in, total}
-use Rattle.encode_pool.specs.QueueRule.{view_of, with_pushed, with_popped, with_split, with_joined, further, IsOwner, Fits, Conserves, IsMoment}
+use Rattle.encode_pool.specs.Counting.{how_many}
+use Rattle.encode_pool.specs.QueueRule.{view_of, with_pushed, with_popped, with_split, with_joined, further, Fits, Conserves, IsMoment}
 use Rattle.encode_pool.specs.declared.queue_view.Standing.{Standing}
 use Rattle.encode_pool.specs.declared.queue_view.Standing.TheVariants as S
 use Rattle.encode_pool.specs.declared.queue_view.QueueView.{QueueView}
-use Rattle.encode_pool.proofs.CountingLemmas.{how_many-append, how_many_in-append, total-append, total_set, total_at}
+use Rattle.encode_pool.proofs.CountingLemmas.{how_many-append, how_many_in-append, total-append, total_set}
 use Rattle.encode_pool.proofs.Subsequences.{sub_longer, sub_both, subs_longer, subs_one_more}
 
 -- what a pass may do is one of three

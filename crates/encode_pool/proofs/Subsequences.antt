@@ -1,5 +1,5 @@
 -- Items that stand in a list in its order.
-use Rattle.std.proofs.Common.{◌≡◌, ℕ, List, [], ◌∷◌, ◌++◌, ◌⊎◌, inl, inr, ⊎_elim, refl}
+use Rattle.std.proofs.Common.{List, [], ◌∷◌, ◌++◌, inl, inr, ⊎_elim, refl}
 use Rattle.std.specs.List.{AllByRecursion}
 use Rattle.xp_base.specs.Lists.{IsSubsequence}
 

@@ -1,5 +1,5 @@
 -- What a board in memory is as a board.
-use Rattle.std.specs.Prelude.{ℕ, Option, Some, None}
+use Rattle.std.specs.Prelude.{None}
 use Rattle.std.specs.Option.{option_map}
 use Rattle.encode_pool.specs.Board.{Board, handed_out}
 use Rattle.encode_pool.specs.declared.mem_board.MemBoard.{MemBoard}

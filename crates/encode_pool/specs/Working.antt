@@ -1,5 +1,5 @@
 -- What a worker did, by its board before and after. This project's own.
-use Rattle.std.specs.Prelude.{ℕ, ◌≡◌, ◌+◌, Some, None}
+use Rattle.std.specs.Prelude.{ℕ, ◌≡◌, ◌+◌, Some}
 use Rattle.xp_base.specs.Counts.{Rose}
 use Rattle.capture_jobs.specs.Jobs.{EncodingJob}
 use Rattle.encode_pool.specs.Board.{Board, handed_out, counted_up}

@@ -49,7 +49,9 @@ impl MemBoard {
     }
 
     /// What was filed, in order.
-    pub fn results(&self) -> &[Done] {
+    pub fn results(&self) -> &[Done]
+        ensures { result.now ≡ self.now.results.items }
+    {
         self.results.as_slice()
     }
 }
