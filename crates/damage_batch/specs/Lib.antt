@@ -1,0 +1,4 @@
+pub mod Delay
+pub mod Pending
+pub mod Delivery
+pub mod Laws

@@ -1,0 +1,4 @@
+pub mod LossyPoints
+pub mod Delivery
+pub mod Queue
+pub mod Laws
