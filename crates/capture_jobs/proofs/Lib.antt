@@ -1,0 +1,2 @@
+mod PlanningLemmas
+mod Captures

@@ -1,0 +1,4 @@
+pub mod Planning
+pub mod Captured
+pub mod Jobs
+pub mod Laws

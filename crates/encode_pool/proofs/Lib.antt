@@ -1,0 +1,4 @@
+mod CountingLemmas
+mod Subsequences
+mod QueueSteps
+mod QueueLessons
