@@ -216,11 +216,11 @@ impl<R: Points> WindowSource<R> {
     }
 
     // What is pending, with what of this rectangle is in the window.
-    fn damaged_inside(&self, r: Rect) -> Result<R, NoMemory>
-        ensures { IfOk result (IsDamaged R.has self.now r) }
+    fn damaged_inside(&self, rect: Rect) -> Result<R, NoMemory>
+        ensures { IfOk result (IsDamaged R.has self.now rect) }
     {
         let mut pending = self.pending.copy()?;
-        pending.union_rect(r)?;
+        pending.union_rect(rect)?;
         pending.clip(self.whole())?;
         points_are_their_tests();
         Ok(pending)

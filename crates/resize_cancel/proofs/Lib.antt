@@ -1,0 +1,2 @@
+pub mod ReliefLemmas
+pub mod DeliveryLemmas

@@ -1,0 +1,3 @@
+pub mod Cancelled
+pub mod Delivery
+pub mod Laws
