@@ -5,9 +5,8 @@ use Rattle.std.proofs.Math.Nat.{mul-suc, mul-le-mul}
 use Rattle.std.proofs.lemmas.Bool.{cases_Bool, cases_lt}
 use Rattle.std.proofs.lemmas.Bool.Decides.{nat_tests}
 use Rattle.xp_base.specs.Points.{Rectangle, IsRectangle, is_in, area}
-use Rattle.rect_regions.specs.PointSets.{has, SamePoints, sum_below, count_row, count_within, count_of}
-use Rattle.rect_regions.specs.Bands.{Each, GoesBefore, IsOrdered}
-use Rattle.rect_regions.specs.Making.{in_columns, in_rows}
+use Rattle.rect_regions.specs.PointSets.{has, SamePoints, sum_below, count_row, count_of}
+use Rattle.rect_regions.specs.Bands.{Each}
 use Rattle.rect_regions.specs.Sweeping.{IsSorted}
 use Rattle.rect_regions.proofs.Rects.{Each-front, IsOrdered-front}
 use Rattle.rect_regions.proofs.Counts.{sum_below_none, sum_below_suc, sum_below_same, sum_below_zero, sum_below_few}

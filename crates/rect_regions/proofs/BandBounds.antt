@@ -1,5 +1,5 @@
 -- The least rectangle that holds a list, rectangle by rectangle.
-use Rattle.std.proofs.Common.{◌≡◌, ℕ, ◌+◌, ◌<◌, ◌≤◌, Bool, false, ◌||◌, Option, MatchOption, List, [], ◌∷◌, ◌++◌, length, take, get_or, refl, sym, ap, subst, ◌∙◌}
+use Rattle.std.proofs.Common.{◌≡◌, ℕ, ◌+◌, ◌<◌, ◌≤◌, Bool, false, ◌||◌, Option, MatchOption, List, [], ◌∷◌, length, take, get_or, sym, ap, subst, ◌∙◌}
 use Rattle.std.proofs.lemmas.List.{take_more, take_all}
 use Rattle.xp_base.specs.Points.{Rectangle, IsRectangle, is_in}
 use Rattle.rect_regions.specs.PointSets.{has, HasNone, IsBounds}

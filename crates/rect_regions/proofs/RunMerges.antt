@@ -1,13 +1,13 @@
 -- Bands gone over from left to right.
-use Rattle.std.proofs.Common.{◌≡◌, ℕ, zero, suc, ◌+◌, ◌-◌, ◌<◌, ◌≤◌, min, max, Bool, true, false, ◌&&◌, ◌||◌, List, [], ◌∷◌, ◌++◌, length, drop, get_or, inl, inr, refl, sym, ap, subst, ◌∙◌, arith, ltb}
+use Rattle.std.proofs.Common.{◌≡◌, ℕ, zero, suc, ◌+◌, ◌<◌, ◌≤◌, Bool, true, false, ◌&&◌, ◌||◌, List, [], ◌∷◌, length, drop, get_or, inl, inr, refl, sym, ap, subst, ◌∙◌, arith}
 use Rattle.std.proofs.lemmas.Bool.Decides.{nat_tests}
 use Rattle.std.proofs.lemmas.Bool.{cases_lt}
-use Rattle.xp_base.specs.Points.{Rectangle, IsRectangle}
+use Rattle.xp_base.specs.Points.{Rectangle}
 use Rattle.rect_regions.specs.declared.combination.Combination.{Combination}
 use Rattle.rect_regions.specs.declared.combination.Combination.TheVariants as C
 use Rattle.rect_regions.specs.Bands.{Each}
 use Rattle.rect_regions.specs.Combinations.{keeps, limit_of}
-use Rattle.rect_regions.specs.Making.{in_columns, columns, Gaps, RunsSoFar}
+use Rattle.rect_regions.specs.Making.{in_columns, columns, Gaps}
 use Rattle.rect_regions.specs.Sweeping.{IsRuns, IsRightOf, IsRun}
 use Rattle.rect_regions.proofs.Rects.{Each-weaker, columns-left, columns-right}
 

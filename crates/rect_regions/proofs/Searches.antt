@@ -1,5 +1,5 @@
 -- Points looked for in a sorted list.
-use Rattle.std.proofs.Common.{◌≡◌, ℕ, zero, suc, ◌+◌, ◌-◌, ◌<◌, ◌≤◌, Bool, true, false, ◌&&◌, ◌||◌, List, [], ◌∷◌, ◌++◌, length, take, drop, get_or, inl, inr, refl, sym, ap, subst, ◌∙◌, arith, add-one}
+use Rattle.std.proofs.Common.{◌≡◌, ℕ, zero, suc, ◌+◌, ◌<◌, ◌≤◌, Bool, true, false, ◌||◌, List, [], ◌∷◌, ◌++◌, length, take, drop, get_or, inl, inr, refl, sym, ap, subst, ◌∙◌, arith, add-one}
 use Rattle.std.proofs.lemmas.Bool.Decides.{nat_tests}
 use Rattle.std.proofs.lemmas.Bool.{cases_Bool}
 use Rattle.std.proofs.lemmas.List.{take-append-drop, take_all, drop_all, drop_more}
@@ -7,7 +7,7 @@ use Rattle.xp_base.specs.Points.{Rectangle, IsRectangle, is_in}
 use Rattle.rect_regions.specs.PointSets.{has, IsLimited}
 use Rattle.rect_regions.specs.Bands.{Each, GoesBefore}
 use Rattle.rect_regions.specs.Sweeping.{IsSorted, is_past}
-use Rattle.rect_regions.proofs.Rects.{Each-weaker, has-append, IsOrdered-back}
+use Rattle.rect_regions.proofs.Rects.{has-append, IsOrdered-back}
 use Rattle.rect_regions.proofs.Places.{Each-at}
 use Rattle.rect_regions.proofs.Areas.{sorted_rest}
 use Rattle.rect_regions.proofs.Uniqueness.{one_of, inside}

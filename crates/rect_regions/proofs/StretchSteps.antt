@@ -1,13 +1,12 @@
 -- Lists of rectangles gone over from top to bottom.
-use Rattle.std.proofs.Common.{◌≡◌, ℕ, zero, suc, ◌+◌, ◌-◌, ◌<◌, ◌≤◌, Bool, true, false, ◌&&◌, ◌||◌, List, [], ◌∷◌, ◌++◌, length, take, drop, get_or, inl, inr, refl, sym, ap, subst, ◌∙◌, arith, append_assoc}
-use Rattle.std.proofs.lemmas.Bool.Decides.{nat_tests}
+use Rattle.std.proofs.Common.{◌≡◌, ℕ, zero, suc, ◌+◌, ◌<◌, ◌≤◌, Bool, ◌||◌, List, [], ◌∷◌, ◌++◌, length, drop, get_or, inl, inr, refl, sym, ap, subst, ◌∙◌, arith, append_assoc}
 use Rattle.xp_base.specs.Points.{Rectangle, IsRectangle}
 use Rattle.rect_regions.specs.declared.combination.Combination.{Combination}
 use Rattle.rect_regions.specs.PointSets.{has}
 use Rattle.rect_regions.specs.Bands.{Each, GoesBefore, IsOrdered}
 use Rattle.rect_regions.specs.Combinations.{keeps, combined}
-use Rattle.rect_regions.specs.Making.{in_rows, columns, HasRows, EndsBy, Gaps}
-use Rattle.rect_regions.specs.Sweeping.{IsSorted, IsRuns, IsBelow, BeginsElsewhere, IsFirstBand, IsStretch}
+use Rattle.rect_regions.specs.Making.{columns, HasRows, EndsBy}
+use Rattle.rect_regions.specs.Sweeping.{IsSorted, IsBelow, BeginsElsewhere, IsFirstBand, IsStretch}
 use Rattle.rect_regions.proofs.Rects.{Each-append, Each-front, Each-back, Each-weaker, Each-both, IsOrdered-front, IsOrdered-back, has-append, has-above, has-below, has-band}
 use Rattle.rect_regions.proofs.Runs.{Gaps-band}
 use Rattle.rect_regions.proofs.Makings.{in_rows_at, or_false}

@@ -1,17 +1,16 @@
 -- Lists that are swept together, from top to bottom.
-use Rattle.std.proofs.Common.{◌≡◌, ℕ, zero, suc, ◌+◌, ◌-◌, ◌<◌, ◌≤◌, ◌==◌, Bool, true, false, ◌&&◌, ◌||◌, leb, ltb, cond, List, [], ◌∷◌, ◌++◌, length, take, drop, get_or, inl, inr, refl, sym, ap, subst, ◌∙◌, arith}
+use Rattle.std.proofs.Common.{◌≡◌, ℕ, zero, suc, ◌+◌, ◌-◌, ◌<◌, ◌≤◌, Bool, true, false, ◌&&◌, ◌||◌, leb, cond, List, [], ◌∷◌, ◌++◌, length, take, drop, get_or, inl, inr, refl, sym, ap, subst, ◌∙◌, arith}
 use Rattle.std.proofs.lemmas.Bool.Decides.{nat_tests}
-use Rattle.std.proofs.lemmas.Bool.{cases_lt, cases_Bool}
+use Rattle.std.proofs.lemmas.Bool.{cases_lt}
 use Rattle.std.proofs.lemmas.List.{append-nil, take-append-drop, length-take-le}
 use Rattle.rect_regions.proofs.Places.{Each-at}
-use Rattle.xp_base.specs.Points.{Rectangle, IsRectangle, is_in}
+use Rattle.xp_base.specs.Points.{Rectangle, IsRectangle}
 use Rattle.rect_regions.specs.declared.combination.Combination.{Combination}
-use Rattle.rect_regions.specs.declared.combination.Combination.TheVariants as C
 use Rattle.rect_regions.specs.PointSets.{has, SamePoints}
-use Rattle.rect_regions.specs.Bands.{Each, GoesBefore, IsOrdered, BeginsAnew, IsRowBands, IsBanded}
+use Rattle.rect_regions.specs.Bands.{Each, GoesBefore, IsOrdered, BeginsAnew, IsBanded}
 use Rattle.rect_regions.specs.Combinations.{keeps, combined}
 use Rattle.rect_regions.specs.Making.{in_rows, columns, HasRows, EndsBy, IsMade, AppendsBand}
-use Rattle.rect_regions.specs.Sweeping.{IsSorted, IsBelow, IsStretch, IsLastBand, AddsRows, AddsRest, BeginsBelow, IsSwept, is_past}
+use Rattle.rect_regions.specs.Sweeping.{IsSorted, IsBelow, IsStretch, IsLastBand, AddsRows, AddsRest, BeginsBelow, IsSwept}
 use Rattle.rect_regions.proofs.Rects.{Each-append, Each-front, Each-back, Each-weaker, Each-both, IsOrdered-append, IsOrdered-front, IsOrdered-back, has-append, has-above, has-below, has-band, or-assoc, before_by_row}
 use Rattle.rect_regions.proofs.Makings.{made_nothing, made_ends, row_above, or_false, anew_above, in_rows_at}
 use Rattle.rect_regions.proofs.RunMerges.{keeps_none, none_or}

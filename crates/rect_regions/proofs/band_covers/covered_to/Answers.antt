@@ -1,10 +1,6 @@
-use Rattle.std.proofs.Common.{rules, ◌≡◌, ◌≤◌, ◌<◌, ◌+◌, ◌-◌, ◌/◌, ◌||◌, ◌&&◌, ℕ, length, Bool, true, false, List, [], ◌∷◌, ◌++◌, take, drop, get_or, sym, ap, subst, ◌∙◌, arith, refl}
-use Rattle.std.proofs.lemmas.Bool.Decides.{nat_tests}
-use Rattle.xp_base.specs.Points.{Rectangle, IsRectangle, is_in, area}
-use Rattle.rect_regions.specs.PointSets.{has}
+use Rattle.std.proofs.Common.{◌≡◌, ◌≤◌, ◌+◌, ℕ, true, false, take, drop, sym, ap, subst, ◌∙◌, arith}
+use Rattle.xp_base.specs.Points.{Rectangle, IsRectangle, is_in}
 use Rattle.rect_regions.specs.Bands.{Each}
-use Rattle.rect_regions.specs.Making.{columns, EndsBy}
-use Rattle.rect_regions.specs.Combinations.{keeps, combined}
 use Rattle.rect_regions.proofs.Searches.{IsPast, IsAhead}
 use Rattle.rect_regions.proofs.Coverings.{covered_past, covered_out, covered_short, covered_all}
 use Rattle.rect_regions.proofs.band_covers.covered_to.Goals as goal

@@ -1,9 +1,8 @@
-use Rattle.std.proofs.Common.{rules, ◌≡◌, ◌≤◌, ◌<◌, ◌+◌, ◌-◌, ◌↔◌, IsTrue, ℕ, length, Bool, true, false, List, [], ◌∷◌, ◌++◌, take, drop, get_or, sym, ap, subst, ◌∙◌, arith, refl}
-use Rattle.xp_base.specs.Points.{Rectangle, IsRectangle, is_in}
+use Rattle.std.proofs.Common.{◌≡◌, sym, ap, subst, arith, refl}
+use Rattle.xp_base.specs.Points.{Rectangle}
 use Rattle.rect_regions.specs.PointSets.{has}
-use Rattle.rect_regions.specs.Bands.{Each}
 use Rattle.rect_regions.specs.Sweeping.{Covers}
-use Rattle.rect_regions.proofs.Coverings.{covers_begin, covers_on, covers_end, covers_not}
+use Rattle.rect_regions.proofs.Coverings.{covers_end, covers_not}
 use Rattle.rect_regions.proofs.band_covers.covers.Goals as goal
 
 pub returns-then-next-y : goal.returns-then-next-y

@@ -1,6 +1,5 @@
-use Rattle.std.proofs.Common.{rules, ◌≡◌, ◌≤◌, ◌<◌, ◌+◌, ◌-◌, ◌↔◌, IsTrue, ℕ, length, Bool, true, false, List, [], ◌∷◌, ◌++◌, take, drop, get_or, sym, ap, subst, ◌∙◌, arith, refl}
-use Rattle.std.proofs.lemmas.Bool.Decides.{nat_tests}
-use Rattle.xp_base.specs.Points.{Rectangle, IsRectangle, is_in}
+use Rattle.std.proofs.Common.{◌≡◌, true, false, List, [], ◌∷◌, take, get_or, sym, subst, refl}
+use Rattle.xp_base.specs.Points.{Rectangle}
 use Rattle.rect_regions.specs.PointSets.{has}
 use Rattle.rect_regions.specs.Bands.{Each}
 use Rattle.rect_regions.specs.Sweeping.{Covers}

@@ -1,11 +1,5 @@
-use Rattle.std.proofs.Common.{rules, ◌≡◌, ◌≤◌, ◌<◌, ◌+◌, ◌-◌, ◌/◌, ◌||◌, ◌&&◌, ℕ, length, Bool, true, false, List, [], ◌∷◌, ◌++◌, take, drop, get_or, sym, ap, subst, ◌∙◌, arith, refl}
-use Rattle.std.proofs.lemmas.Bool.Decides.{nat_tests}
-use Rattle.xp_base.specs.Points.{Rectangle, IsRectangle, is_in, area}
-use Rattle.rect_regions.specs.PointSets.{has}
-use Rattle.rect_regions.specs.Bands.{Each}
-use Rattle.rect_regions.specs.Making.{columns, EndsBy}
-use Rattle.rect_regions.specs.Combinations.{keeps, combined}
-use Rattle.rect_regions.proofs.Searches.{past_to, ahead_at, ahead_past_all}
+use Rattle.std.proofs.Common.{◌<◌, ◌+◌, ◌-◌, ◌/◌, sym, ◌∙◌, arith}
+use Rattle.rect_regions.proofs.Searches.{past_to, ahead_at}
 use Rattle.rect_regions.proofs.band_search.first_not_past.Goals as goal
 
 pub loop-low-preserved-then-is_past : goal.loop-low-preserved-then-is_past

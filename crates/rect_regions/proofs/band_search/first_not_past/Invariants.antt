@@ -1,4 +1,4 @@
-use Rattle.std.proofs.Common.{◌-◌, ◌≡◌, ◌≤◌, length, take, drop}
+use Rattle.std.proofs.Common.{◌-◌, ◌≤◌, length, take, drop}
 use Rattle.rect_regions.specs.Bands.{Each}
 use Rattle.rect_regions.proofs.Searches.{IsPast, IsAhead}
 use Rattle.rect_regions.proofs.band_search.first_not_past.Given as goal

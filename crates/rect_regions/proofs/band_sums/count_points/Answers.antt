@@ -1,10 +1,6 @@
-use Rattle.std.proofs.Common.{rules, ◌≡◌, ◌≤◌, ◌<◌, ◌+◌, ◌-◌, ◌/◌, ◌||◌, ◌&&◌, ℕ, length, Bool, true, false, List, [], ◌∷◌, ◌++◌, take, drop, get_or, sym, ap, subst, ◌∙◌, arith, refl}
-use Rattle.std.proofs.lemmas.Bool.Decides.{nat_tests}
-use Rattle.xp_base.specs.Points.{Rectangle, IsRectangle, is_in, area}
+use Rattle.std.proofs.Common.{◌≡◌, ◌+◌, take, get_or, sym, ap, ◌∙◌, arith}
+use Rattle.xp_base.specs.Points.{Rectangle, area}
 use Rattle.rect_regions.specs.PointSets.{has}
-use Rattle.rect_regions.specs.Bands.{Each}
-use Rattle.rect_regions.specs.Making.{columns, EndsBy}
-use Rattle.rect_regions.specs.Combinations.{keeps, combined}
 use Rattle.rect_regions.specs.PointSets.{count_of}
 use Rattle.rect_regions.proofs.Areas.{count_of-few, count_of-none, count_of-take_more, count_more}
 use Rattle.rect_regions.proofs.band_sums.count_points.Goals as goal

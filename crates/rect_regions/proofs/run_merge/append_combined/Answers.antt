@@ -1,9 +1,9 @@
-use Rattle.std.proofs.Common.{rules, ◌≡◌, ◌≤◌, ◌<◌, ◌+◌, ◌-◌, OnOk, ℕ, Bool, true, false, List, sym, subst, arith}
+use Rattle.std.proofs.Common.{◌≡◌, ◌≤◌, ◌<◌, ℕ, Bool, false, List, subst, arith}
 use Rattle.std.proofs.lemmas.Result.{on_ok_weaker}
 use Rattle.xp_base.specs.Points.{Rectangle}
 use Rattle.rect_regions.specs.Combinations.{keeps}
 use Rattle.rect_regions.specs.Making.{columns, AppendsBand, RunsSoFar, with_run}
-use Rattle.rect_regions.proofs.RunSteps.{runs_begin, runs_on, runs_ended, runs_end}
+use Rattle.rect_regions.proofs.RunSteps.{runs_begin, runs_ended, runs_end}
 use Rattle.rect_regions.proofs.RunMerges.{limit_of-within, right_begin, right_on, run_within, run_row, row_past}
 use Rattle.rect_regions.proofs.run_merge.append_combined.Goals as goal
 

@@ -1,4 +1,4 @@
-use Rattle.std.proofs.Common.{◌-◌, ◌≡◌, ◌≤◌}
+use Rattle.std.proofs.Common.{◌-◌, ◌≤◌}
 use Rattle.rect_regions.specs.Combinations.{keeps}
 use Rattle.rect_regions.specs.Making.{columns, RunsSoFar}
 use Rattle.rect_regions.specs.Sweeping.{IsRightOf}

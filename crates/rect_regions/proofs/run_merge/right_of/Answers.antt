@@ -1,7 +1,7 @@
-use Rattle.std.proofs.Common.{rules, ◌≡◌, ◌≤◌, ◌<◌, ◌+◌, ◌-◌, ℕ, length, Bool, true, false, List, [], ◌∷◌, ◌++◌, take, drop, sym, ap, subst, ◌∙◌, arith}
+use Rattle.std.proofs.Common.{◌≡◌, ◌≤◌, length, ap, arith}
 use Rattle.std.proofs.lemmas.Bool.Decides.{nat_tests}
 use Rattle.xp_base.specs.Points.{Rectangle}
-use Rattle.rect_regions.proofs.RunMerges.{right_none, right_stay_at, right_next_at}
+use Rattle.rect_regions.proofs.RunMerges.{right_stay_at, right_next_at}
 use Rattle.rect_regions.proofs.run_merge.right_of.Goals as goal
 
 pub returns-then-x-first : goal.returns-then-x-first

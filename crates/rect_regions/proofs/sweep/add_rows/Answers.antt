@@ -1,10 +1,5 @@
-use Rattle.std.proofs.Common.{rules, ◌≡◌, ◌≤◌, ◌<◌, ◌+◌, ◌-◌, ◌/◌, ◌||◌, ◌&&◌, ℕ, length, Bool, true, false, List, [], ◌∷◌, ◌++◌, take, drop, get_or, sym, ap, subst, ◌∙◌, arith, refl}
-use Rattle.std.proofs.lemmas.Bool.Decides.{nat_tests}
-use Rattle.xp_base.specs.Points.{Rectangle, IsRectangle, is_in, area}
-use Rattle.rect_regions.specs.PointSets.{has}
-use Rattle.rect_regions.specs.Bands.{Each}
-use Rattle.rect_regions.specs.Making.{columns, EndsBy}
-use Rattle.rect_regions.specs.Combinations.{keeps, combined}
+use Rattle.rect_regions.specs.Making.{columns}
+use Rattle.rect_regions.specs.Combinations.{keeps}
 use Rattle.rect_regions.proofs.Sweeps.{rows_added}
 use Rattle.rect_regions.proofs.sweep.add_rows.Goals as goal
 

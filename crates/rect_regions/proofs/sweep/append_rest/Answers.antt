@@ -1,10 +1,9 @@
-use Rattle.std.proofs.Common.{rules, ◌≡◌, ◌≤◌, ◌<◌, ◌+◌, ◌-◌, ℕ, cond, length, Bool, true, false, List, [], ◌∷◌, ◌++◌, take, drop, sym, ap, subst, ◌∙◌, arith}
+use Rattle.std.proofs.Common.{◌≡◌, ◌≤◌, ℕ, length, Bool, false, List, ◌++◌, sym, subst, arith}
 use Rattle.std.proofs.lemmas.Bool.Decides.{nat_tests}
 use Rattle.xp_base.specs.Points.{Rectangle}
-use Rattle.rect_regions.specs.PointSets.{has}
-use Rattle.rect_regions.specs.Bands.{Each, IsBanded}
+use Rattle.rect_regions.specs.Bands.{IsBanded}
 use Rattle.rect_regions.specs.Combinations.{keeps}
-use Rattle.rect_regions.specs.Making.{columns, EndsBy, IsMade}
+use Rattle.rect_regions.specs.Making.{columns}
 use Rattle.rect_regions.specs.Sweeping.{AddsRows, AddsRest}
 use Rattle.rect_regions.proofs.Sweeps.{row_limit, rest_made, rest_banded, rest_added}
 use Rattle.rect_regions.proofs.sweep.append_rest.Goals as goal

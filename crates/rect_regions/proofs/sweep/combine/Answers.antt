@@ -1,10 +1,8 @@
-use Rattle.std.proofs.Common.{rules, ◌≡◌, ◌≤◌, ◌<◌, ◌+◌, ◌-◌, ℕ, cond, length, Bool, true, false, List, [], ◌∷◌, ◌++◌, take, drop, sym, ap, subst, ◌∙◌, arith}
-use Rattle.std.proofs.lemmas.Bool.Decides.{nat_tests}
+use Rattle.std.proofs.Common.{◌≡◌, cond, Bool, true, false, List, [], sym, ap, subst, ◌∙◌}
 use Rattle.xp_base.specs.Points.{Rectangle}
-use Rattle.rect_regions.specs.PointSets.{has}
 use Rattle.rect_regions.specs.Bands.{Each, IsBanded}
 use Rattle.rect_regions.specs.Combinations.{keeps}
-use Rattle.rect_regions.specs.Making.{columns, EndsBy, IsMade}
+use Rattle.rect_regions.specs.Making.{EndsBy, IsMade}
 use Rattle.rect_regions.specs.Sweeping.{IsSwept}
 use Rattle.rect_regions.proofs.Sweeps.{sorted_banded, kept_banded, kept_ends, above_banded_at, split_of, below_split, below_other, swept_alone, swept_with, left_anew}
 use Rattle.rect_regions.proofs.sweep.combine.Goals as goal

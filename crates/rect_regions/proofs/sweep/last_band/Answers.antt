@@ -1,10 +1,6 @@
-use Rattle.std.proofs.Common.{rules, ◌≡◌, ◌≤◌, ◌<◌, ◌+◌, ◌-◌, ◌/◌, ◌||◌, ◌&&◌, ℕ, length, Bool, true, false, List, [], ◌∷◌, ◌++◌, take, drop, get_or, sym, ap, subst, ◌∙◌, arith, refl}
+use Rattle.std.proofs.Common.{◌≡◌, ◌≤◌, length, ap, arith}
 use Rattle.std.proofs.lemmas.Bool.Decides.{nat_tests}
-use Rattle.xp_base.specs.Points.{Rectangle, IsRectangle, is_in, area}
-use Rattle.rect_regions.specs.PointSets.{has}
-use Rattle.rect_regions.specs.Bands.{Each}
-use Rattle.rect_regions.specs.Making.{columns, EndsBy}
-use Rattle.rect_regions.specs.Combinations.{keeps, combined}
+use Rattle.xp_base.specs.Points.{Rectangle}
 use Rattle.rect_regions.proofs.Sweeps.{last_band_at}
 use Rattle.rect_regions.proofs.sweep.last_band.Goals as goal
 

@@ -1,13 +1,10 @@
-use Rattle.std.proofs.Common.{rules, ◌≡◌, ◌≤◌, ◌<◌, ◌+◌, ◌-◌, ◌/◌, ◌||◌, ◌&&◌, ℕ, length, Bool, true, false, List, [], ◌∷◌, ◌++◌, take, drop, get_or, sym, ap, subst, ◌∙◌, arith, refl}
-use Rattle.std.proofs.lemmas.Bool.Decides.{nat_tests}
-use Rattle.xp_base.specs.Points.{Rectangle, IsRectangle, is_in, area}
+use Rattle.std.proofs.Common.{◌≡◌, ◌≤◌, ◌<◌, ℕ, Bool, arith}
 use Rattle.rect_regions.specs.PointSets.{has}
-use Rattle.rect_regions.specs.Bands.{Each}
 use Rattle.rect_regions.specs.Making.{columns, EndsBy}
 use Rattle.rect_regions.specs.Combinations.{keeps, combined}
 use Rattle.rect_regions.proofs.Rects.{Each-weaker}
 use Rattle.rect_regions.proofs.StretchSteps.{below_on, stretch_rows}
-use Rattle.rect_regions.proofs.Sweeps.{swept_begin, swept_on}
+use Rattle.rect_regions.proofs.Sweeps.{swept_on}
 use Rattle.rect_regions.proofs.sweep.sweep.Goals as goal
 
 pub loop-y-preserved : goal.loop-y-preserved

@@ -1,4 +1,4 @@
-use Rattle.std.proofs.Common.{◌-◌, ◌≡◌, ◌≤◌}
+use Rattle.std.proofs.Common.{◌-◌, ◌≤◌}
 use Rattle.rect_regions.specs.PointSets.{has}
 use Rattle.rect_regions.specs.Combinations.{combined}
 use Rattle.rect_regions.specs.Making.{IsMade}

@@ -1,4 +1,4 @@
-use Rattle.std.proofs.Common.{◌≡◌, ℕ, ◌≤◌, length, sym, ap, ◌∙◌, arith}
+use Rattle.std.proofs.Common.{length, ap, arith}
 use Rattle.rect_regions.proofs.Areas.{pieces_bound}
 use Rattle.rect_regions.proofs.region.Region.pieces.Goals as goal
 

@@ -1,8 +1,6 @@
-use Rattle.std.proofs.Common.{rules, ◌≡◌, ◌≤◌, ◌<◌, ◌+◌, ◌-◌, ◌↔◌, IsTrue, ℕ, length, Bool, true, false, List, [], ◌∷◌, ◌++◌, take, drop, get_or, sym, ap, subst, ◌∙◌, arith, refl}
-use Rattle.std.proofs.lemmas.Bool.Decides.{nat_tests}
-use Rattle.xp_base.specs.Points.{Rectangle, IsRectangle, is_in}
+use Rattle.std.proofs.Common.{List, subst}
+use Rattle.xp_base.specs.Points.{Rectangle}
 use Rattle.rect_regions.specs.PointSets.{has}
-use Rattle.rect_regions.specs.Bands.{Each}
 use Rattle.rect_regions.specs.Sweeping.{Covers}
 use Rattle.rect_regions.proofs.Coverings.{united_covered}
 use Rattle.rect_regions.proofs.region.RegionPoints.union_rect.Goals as goal
