@@ -1,10 +1,10 @@
 -- Going over lists of rectangles: from row to row, and within a band from column to column.
-use Rattle.std.specs.Prelude.{ℕ, ◌≡◌, ◌<◌, ◌≤◌, ◌+◌, Bool, true, false, ◌&&◌, ◌||◌, nat_le, List, [], ◌∷◌, ◌++◌}
+use Rattle.std.specs.Prelude.{ℕ, ◌≡◌, ◌<◌, ◌≤◌, ◌+◌, Bool, true, false, ◌&&◌, ◌||◌, nat_le, List, [], ◌∷◌, ◌++◌, if◌then◌else◌}
 use Rattle.xp_base.specs.Points.{Rectangle, IsRectangle, is_in}
-use Rattle.rect_regions.specs.PointSets.{has}
+use Rattle.rect_regions.specs.PointSets.{has, SamePoints}
 use Rattle.rect_regions.specs.Bands.{Each, IsOrdered, BeginsAnew}
 use Rattle.rect_regions.specs.declared.combination.Combination.{Combination}
-use Rattle.rect_regions.specs.Combinations.{combined}
+use Rattle.rect_regions.specs.Combinations.{keeps, combined}
 use Rattle.rect_regions.specs.Making.{in_rows, columns, EndsBy, IsMade, Gaps}
 
 -- rectangles in the order of a row-band list; the runs of a band
@@ -76,6 +76,17 @@ pub record IsCoveredTo (rects : List Rectangle) (r : Rectangle) (y next : ℕ) :
 -- the place where the last band of a list begins, however far down that is taken to be made
 abbrev pub IsLastBand : List Rectangle → ℕ → Type 0
 IsLastBand rects last = (down : ℕ) → Each (EndsBy down) rects → IsMade rects last down
+
+-- the points of a list are those of two others, so combined; and the columns of a row of two bands, so combined
+abbrev pub IsCombined : Combination → List Rectangle → List Rectangle → List Rectangle → Type 0
+IsCombined c one other rects = SamePoints (has rects) (combined c (has one) (has other))
+
+abbrev pub combined_row : Combination → List Rectangle → List Rectangle → ℕ → Bool
+combined_row c one other x = keeps c (columns one x) (columns other x)
+
+-- what is kept of rectangles of the one list where the other has nothing
+abbrev pub kept_alone : Combination → List Rectangle → List Rectangle
+kept_alone c rects = if keeps c true false then rects else []
 
 -- to the points of a list come those of a row, in some rows; or those of what is left from a row on
 abbrev pub AddsRows : List Rectangle → List Rectangle → ℕ → ℕ → (ℕ → Bool) → Type 0

@@ -4,7 +4,7 @@ ghost use Rattle.xp_base.specs.Points.{is_in};
 ghost use Rattle.rect_regions.specs.PointSets.{has, SamePoints};
 ghost use Rattle.rect_regions.specs.Bands.{IsBanded};
 ghost use Rattle.rect_regions.specs.Combinations.{combined};
-ghost use Rattle.rect_regions.specs.Sweeping.{IsSorted};
+ghost use Rattle.rect_regions.specs.Sweeping.{IsSorted, IsCombined};
 
 use crate::band_covers::{covers, covers_all};
 use crate::band_search::has_point;
@@ -57,7 +57,7 @@ impl Region {
     /// The points of this set and of a list, so combined.
     fn combined(&self, combination: Combination, other: &[Rect]) -> Result<Region, NoMemory>
         requires { IsSorted other.now }
-        ensures { IfOk result (λ r. SamePoints (has r) (combined combination (has self.now) (has other.now))) }
+        ensures { IfOk result (λ r. IsCombined combination self.now other.now r) }
     {
         let rects = combine(*self.rects.allocator(), combination, self.list(), other)?;
         Ok(Region { rects })

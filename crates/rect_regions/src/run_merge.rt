@@ -1,9 +1,8 @@
 // The runs of two bands, combined from left to right.
 ghost use Rattle.std.specs.Prelude.{◌≡◌, ◌≤◌, ◌<◌, ◌+◌, OnOk};
 ghost use Rattle.rect_regions.specs.Bands.{Each};
-ghost use Rattle.rect_regions.specs.Combinations.{keeps};
-ghost use Rattle.rect_regions.specs.Making.{columns, AppendsBand};
-ghost use Rattle.rect_regions.specs.Sweeping.{IsRuns, IsRightOf, IsRun};
+ghost use Rattle.rect_regions.specs.Making.{AppendsBand};
+ghost use Rattle.rect_regions.specs.Sweeping.{IsRuns, IsRightOf, IsRun, combined_row};
 
 use crate::bands::end_run;
 use crate::combination::Combination;
@@ -29,7 +28,8 @@ pub fn append_combined(
     requires down { bottom ≤ 4096 }
     requires one { IsRuns one.now }
     requires other { IsRuns other.now }
-    ensures { OnOk result (AppendsBand rects.old.items rects.new.items top bottom (λ x. keeps combination (columns one.now x) (columns other.now x))) }
+    ensures { OnOk result
+        (AppendsBand rects.old.items rects.new.items top bottom (combined_row combination one.now other.now)) }
 {
     let limit = combination.limit(right_end(one), right_end(other));
     let mut one_left = one;

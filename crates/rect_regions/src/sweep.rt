@@ -1,10 +1,9 @@
 // Two lists of rectangles, combined from top to bottom.
-ghost use Rattle.std.specs.Prelude.{◌≡◌, ◌≤◌, ◌<◌, ◌+◌, IfOk, OnOk, ℕ, true, false, if◌then◌else◌, []};
-ghost use Rattle.rect_regions.specs.PointSets.{has, SamePoints};
+ghost use Rattle.std.specs.Prelude.{◌≡◌, ◌≤◌, ◌<◌, ◌+◌, IfOk, OnOk, ℕ, true, false};
 ghost use Rattle.rect_regions.specs.Bands.{Each, IsBanded};
-ghost use Rattle.rect_regions.specs.Combinations.{keeps, combined};
-ghost use Rattle.rect_regions.specs.Making.{columns, EndsBy, IsMade};
-ghost use Rattle.rect_regions.specs.Sweeping.{IsSorted, IsRuns, IsBelow, IsSwept, AddsRows, AddsRest, IsLastBand, BeginsBelow};
+ghost use Rattle.rect_regions.specs.Combinations.{keeps};
+ghost use Rattle.rect_regions.specs.Making.{EndsBy, IsMade};
+ghost use Rattle.rect_regions.specs.Sweeping.{IsSorted, IsRuns, IsBelow, IsSwept, AddsRows, AddsRest, IsLastBand, BeginsBelow, IsCombined, combined_row, kept_alone};
 
 use crate::band_search::first_not_past;
 use crate::bands::join_band;
@@ -33,7 +32,7 @@ pub fn combine(
     requires one { IsBanded one.now }
     requires other { IsSorted other.now }
     ensures banded { IfOk result (λ rects. IsBanded rects.items) }
-    ensures points { IfOk result (λ rects. SamePoints (has rects.items) (combined combination (has one.now) (has other.now))) }
+    ensures points { IfOk result (λ rects. IsCombined combination one.now other.now rects.items) }
 {
     let place = first_not_past(one, 0, top_row(other));
     let (above, left) = one.split_at(place);
@@ -55,7 +54,7 @@ fn kept_alone(
     above: &[Rect],
     room: usize,
 ) -> Result<Vec<Rect>, NoMemory>
-    ensures { IfOk result (λ rects. rects.items ≡ (if keeps combination true false then above.now else [])) }
+    ensures { IfOk result (λ rects. rects.items ≡ kept_alone combination above.now) }
 {
     let mut rects = Vec::new(alloc);
     if combination.keeps(true, false) {
@@ -116,7 +115,8 @@ fn sweep<'a>(
     requires one { IsBelow from one.now one.now }
     requires other { IsBelow from other.now other.now }
     requires limit { from ≤ 4096 }
-    ensures { IfOk result (λ s. IsSwept combination one.now other.now rects.old.items rects.new.items from s.last s.y s.left.now) }
+    ensures { IfOk result (λ s.
+        IsSwept combination one.now other.now rects.old.items rects.new.items from s.last s.y s.left.now) }
 {
     let limit = bottom_row(other);
     let mut last = last;
@@ -164,7 +164,8 @@ fn add_rows(
     requires one { IsRuns one.now }
     requires other { IsRuns other.now }
     ensures made { IfOk result (λ place. IsMade rects.new.items place bottom) }
-    ensures points { OnOk result (AddsRows rects.old.items rects.new.items top bottom (λ x. keeps combination (columns one.now x) (columns other.now x))) }
+    ensures points { OnOk result
+        (AddsRows rects.old.items rects.new.items top bottom (combined_row combination one.now other.now)) }
 {
     let start = rects.len();
     append_combined(rects, combination, one, other, top, bottom)?;
@@ -183,7 +184,8 @@ fn append_rest(
     requires left { IsBelow swept.y swept.left.now swept.left.now }
     requires anew { Each (BeginsBelow swept.y swept.left.now) swept.left.now }
     ensures banded { OnOk result (IsBanded rects.new.items) }
-    ensures points { OnOk result (AddsRest rects.old.items rects.new.items swept.entry.y swept.entry.left.now) }
+    ensures points { OnOk result
+        (AddsRest rects.old.items rects.new.items swept.entry.y swept.entry.left.now) }
 {
     if swept.left.is_empty() {
         return Ok(());
