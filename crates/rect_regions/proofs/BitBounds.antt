@@ -1,9 +1,9 @@
 -- The least rectangle of rows of bits, mark by mark.
-use Rattle.std.proofs.Common.{◌≡◌, ℕ, ◌+◌, ◌*◌, ◌/◌, ◌%◌, ◌<◌, ◌≤◌, Bool, true, false, Option, MatchOption, sym, ap, subst, ◌∙◌, arith}
+use Rattle.std.proofs.Common.{◌≡◌, ℕ, ◌+◌, ◌*◌, ◌/◌, ◌%◌, ◌≤◌, true, false, Option, MatchOption, sym, subst, arith}
 use Rattle.xp_base.specs.Points.{Rectangle, IsRectangle}
 use Rattle.rect_regions.specs.PointSets.{HasNone, IsBounds}
 use Rattle.rect_regions.specs.BitRows.{BitRows, IsSize, has_mark}
-use Rattle.rect_regions.specs.Bounding.{with_rect, with_point}
+use Rattle.rect_regions.specs.Bounding.{with_point}
 use Rattle.rect_regions.proofs.Marks.{marks_limited}
 use Rattle.rect_regions.proofs.BitSteps.{marks_below, point_at, marks_on, marks_off, marks_all}
 use Rattle.rect_regions.proofs.Boundings.{BoundsSoFar, bounds_with, bounds_same, bounds_match}

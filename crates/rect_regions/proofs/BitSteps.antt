@@ -1,11 +1,11 @@
 -- The points of rows of bits up to a place.
 use Rattle.std.proofs.Common.{◌≡◌, ℕ, ◌+◌, ◌*◌, ◌/◌, ◌%◌, ◌<◌, ◌≤◌, Bool, true, false, ◌&&◌, ◌||◌, inl, inr, refl, sym, ap, ◌∙◌, arith, ltb}
 use Rattle.std.proofs.lemmas.Bool.Decides.{nat_tests}
-use Rattle.std.proofs.lemmas.Bool.{cases_lt, cases_eq, cases_order, cases_Bool, and_parts, ltb-true}
+use Rattle.std.proofs.lemmas.Bool.{cases_Bool, and_parts, ltb-true}
 use Rattle.std.proofs.lemmas.Nat.{mul-add-lt, div-mul-add, mod-mul-add, div-add-mod'}
-use Rattle.xp_base.specs.Points.{Rectangle, is_in, is_within}
+use Rattle.xp_base.specs.Points.{Rectangle, is_in}
 use Rattle.xp_base.specs.Grid.{place_of}
-use Rattle.rect_regions.specs.BitRows.{BitRows, IsSize, has_mark}
+use Rattle.rect_regions.specs.BitRows.{BitRows, has_mark}
 use Rattle.rect_regions.proofs.Marks.{mark_within}
 
 -- the marks at the first places

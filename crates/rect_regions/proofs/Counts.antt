@@ -1,13 +1,6 @@
 -- Sums, and how many points there are.
-use Rattle.std.proofs.Common.{◌≡◌, ℕ, zero, suc, ◌+◌, ◌-◌, ◌*◌, ◌<◌, ◌≤◌, min, Bool, true, false, ◌&&◌, ◌||◌, cond, leb, ltb, List, [], ◌∷◌, length, take, inl, inr, refl, sym, ap, ◌∙◌, arith, add-one}
-use Rattle.std.specs.List.{sum_by}
-use Rattle.std.proofs.Math.Nat.{mul-zero, mul-le-mul_left}
-use Rattle.std.proofs.lemmas.List.Sums.{sum_by-take-le}
-use Rattle.std.proofs.lemmas.Bool.{cases_lt, cases_Bool, cond-true, cond-false}
-use Rattle.std.proofs.lemmas.Bool.Decides.{nat_tests}
-use Rattle.xp_base.specs.Points.{Rectangle, IsRectangle, is_in, area}
-use Rattle.rect_regions.specs.PointSets.{has, SamePoints, united, sum_below, count_row, count_within, count_of}
-use Rattle.rect_regions.specs.Bands.{Each, GoesBefore, IsOrdered}
+use Rattle.std.proofs.Common.{◌≡◌, ℕ, zero, suc, ◌+◌, ◌-◌, ◌<◌, ◌≤◌, Bool, true, false, cond, refl, sym, ap, ◌∙◌, arith, add-one}
+use Rattle.rect_regions.specs.PointSets.{sum_below, count_row, count_within, count_of}
 
 pub sum_below_none : (f : ℕ → ℕ) → sum_below 0 f ≡ 0
 unfolding sum_below

@@ -1,13 +1,13 @@
 -- Joining: what the parts of the list are, and what becomes of it.
-use Rattle.std.proofs.Common.{◌≡◌, ℕ, ◌+◌, ◌-◌, ◌<◌, ◌≤◌, ◌==◌, Bool, true, false, ◌&&◌, List, [], ◌∷◌, ◌++◌, map, length, take, drop, refl, sym, ap, subst, ◌∙◌, arith, append_assoc, length-append}
+use Rattle.std.proofs.Common.{◌≡◌, ℕ, ◌+◌, ◌-◌, ◌<◌, ◌≤◌, ◌==◌, true, false, List, [], ◌∷◌, ◌++◌, map, length, take, drop, sym, ap, subst, ◌∙◌, arith, append_assoc, length-append}
 use Rattle.std.proofs.lemmas.Bool.Decides.{nat_tests}
-use Rattle.std.proofs.lemmas.Bool.{and_parts, eqb-true}
+use Rattle.std.proofs.lemmas.Bool.{and_parts}
 use Rattle.std.proofs.lemmas.List.{append-nil, take_at, drop_at, take_all}
 use Rattle.xp_base.specs.Points.{Rectangle, IsRectangle}
 use Rattle.rect_regions.specs.PointSets.{has, SamePoints}
 use Rattle.rect_regions.specs.Bands.{Each, IsBanded}
-use Rattle.rect_regions.specs.Making.{columns, HasRows, EndsBy, IsBand, IsMade, IsExtended, lengthened, same_runs, goes_on}
-use Rattle.rect_regions.proofs.Rects.{Each-front, Each-back, Each-weaker}
+use Rattle.rect_regions.specs.Making.{HasRows, EndsBy, IsBand, IsMade, IsExtended, lengthened, same_runs, goes_on}
+use Rattle.rect_regions.proofs.Rects.{Each-back, Each-weaker}
 use Rattle.rect_regions.proofs.Runs.{columns-same_runs}
 use Rattle.rect_regions.proofs.Makings.{made_parts, made_apart, made_joined, joined_points, rows_of_ending}
 

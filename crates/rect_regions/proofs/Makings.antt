@@ -1,14 +1,13 @@
 -- Row-band lists in the making: a band is appended, and joined to the one above it where it goes on as that does.
-use Rattle.std.proofs.Common.{◌≡◌, ℕ, suc, ◌+◌, ◌-◌, ◌<◌, ◌≤◌, ◌==◌, Bool, true, false, ◌&&◌, ◌||◌, List, [], ◌∷◌, ◌++◌, map, length, inl, inr, refl, sym, ap, subst, ◌∙◌, arith, append_assoc, ltb}
+use Rattle.std.proofs.Common.{◌≡◌, ℕ, ◌+◌, ◌<◌, ◌≤◌, ◌==◌, Bool, true, false, ◌&&◌, ◌||◌, List, [], ◌∷◌, ◌++◌, map, length, inl, inr, refl, sym, ap, subst, ◌∙◌, arith}
 use Rattle.std.proofs.lemmas.Bool.Decides.{nat_tests}
-use Rattle.std.proofs.lemmas.Bool.{cases_lt, cases_Bool, and_parts}
-use Rattle.std.proofs.lemmas.List.{append-nil}
-use Rattle.xp_base.specs.Points.{Rectangle, IsRectangle, is_in}
-use Rattle.rect_regions.specs.PointSets.{has, SamePoints}
-use Rattle.rect_regions.specs.Bands.{Each, GoesBefore, IsOrdered, BeginsAnew, IsRowBands, IsBanded}
-use Rattle.rect_regions.specs.Making.{in_columns, in_rows, columns, HasRows, EndsBy, IsBand, IsMade, IsExtended, lengthened, same_runs, goes_on}
-use Rattle.rect_regions.proofs.Rects.{Each-append, Each-front, Each-back, Each-weaker, Each-both, has-append, columns-append, IsOrdered-append, IsOrdered-front, IsOrdered-back, or-assoc, before_by_row, has-above, has-below, has-band}
-use Rattle.rect_regions.proofs.Runs.{Gaps-band, same_runs-columns, columns-same_runs, first_column}
+use Rattle.std.proofs.lemmas.Bool.{cases_lt}
+use Rattle.xp_base.specs.Points.{Rectangle, IsRectangle}
+use Rattle.rect_regions.specs.PointSets.{has}
+use Rattle.rect_regions.specs.Bands.{Each, GoesBefore, IsOrdered, BeginsAnew, IsBanded}
+use Rattle.rect_regions.specs.Making.{in_columns, in_rows, columns, HasRows, EndsBy, IsBand, IsMade, lengthened, goes_on}
+use Rattle.rect_regions.proofs.Rects.{Each-append, Each-front, Each-back, Each-weaker, Each-both, has-append, IsOrdered-append, IsOrdered-front, IsOrdered-back, or-assoc, before_by_row, has-above, has-below, has-band}
+use Rattle.rect_regions.proofs.Runs.{Gaps-band, same_runs-columns, first_column}
 
 -- nothing is a list in the making
 pub made_nothing : (down : ℕ) → IsMade [] 0 down

@@ -1,10 +1,8 @@
 -- Places in lists of rectangles.
-use Rattle.std.proofs.Common.{◌≡◌, ℕ, zero, suc, ◌+◌, ◌-◌, ◌<◌, ◌≤◌, List, [], ◌∷◌, ◌++◌, map, length, get_or, set, take, drop, refl, sym, ap, subst, ◌∙◌, arith, add-one, append_assoc}
+use Rattle.std.proofs.Common.{◌≡◌, ℕ, zero, suc, ◌+◌, ◌<◌, ◌≤◌, List, [], ◌∷◌, ◌++◌, map, length, get_or, set, take, drop, sym, ap, ◌∙◌, arith, append_assoc}
 use Rattle.std.proofs.lemmas.List.{map-append, drop_more, take_more, take_more_set, drop-set-lt, drop-append-le, length-take-le, append-nil, drop_all, take_all}
-use Rattle.std.proofs.lemmas.List.{length-set}
 use Rattle.xp_base.specs.Points.{Rectangle}
 use Rattle.rect_regions.specs.Bands.{Each}
-use Rattle.rect_regions.specs.Making.{lengthened}
 
 pub Each-at : {A : Type 0} (P : A → Type 0) (xs : List A) (i : ℕ) (d : A) → Each P xs → i < length xs → P (get_or xs i d)
 Each-at P [] i d each low = absurd (omega arith)

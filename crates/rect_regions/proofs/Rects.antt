@@ -1,10 +1,10 @@
 -- Lists of rectangles: what holds of each, their order, their points.
-use Rattle.std.proofs.Common.{◌≡◌, ℕ, ◌+◌, ◌<◌, ◌≤◌, Bool, true, false, ◌&&◌, ◌||◌, List, [], ◌∷◌, ◌++◌, ◌⊎◌, inl, inr, refl, sym, ap, ◌∙◌, arith}
+use Rattle.std.proofs.Common.{◌≡◌, ℕ, ◌+◌, ◌<◌, ◌≤◌, Bool, true, false, ◌&&◌, ◌||◌, List, [], ◌∷◌, ◌++◌, inl, inr, refl, sym, ap, ◌∙◌, arith}
 use Rattle.std.proofs.lemmas.Bool.Decides.{nat_tests}
 use Rattle.xp_base.specs.Points.{Rectangle, IsRectangle, is_in}
 use Rattle.rect_regions.specs.PointSets.{has, SamePoints}
 use Rattle.rect_regions.specs.Bands.{Each, GoesBefore, IsOrdered, BeginsAnew, IsRowBands}
-use Rattle.rect_regions.specs.Making.{in_columns, in_rows, columns, HasRows, EndsBy, IsBand}
+use Rattle.rect_regions.specs.Making.{in_columns, in_rows, columns, HasRows, EndsBy}
 
 pub Each-append : {A : Type 0} (P : A → Type 0) (xs ys : List A) → Each P xs → Each P ys → Each P (xs ++ ys)
 Each-append P [] ys p q = q

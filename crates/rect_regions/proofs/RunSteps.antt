@@ -1,11 +1,11 @@
 -- A band in the making, run by run from the left.
-use Rattle.std.proofs.Common.{◌≡◌, ℕ, ◌+◌, ◌-◌, ◌<◌, ◌≤◌, Bool, true, false, ◌&&◌, ◌||◌, List, [], ◌∷◌, ◌++◌, inl, inr, refl, sym, ap, ◌∙◌, arith, append_assoc, ltb, subst}
+use Rattle.std.proofs.Common.{◌≡◌, ℕ, ◌+◌, ◌<◌, ◌≤◌, Bool, true, false, ◌&&◌, ◌||◌, List, [], ◌∷◌, ◌++◌, inl, inr, refl, sym, ap, ◌∙◌, arith, append_assoc, ltb, subst}
 use Rattle.std.proofs.lemmas.Bool.Decides.{nat_tests}
 use Rattle.std.proofs.lemmas.Bool.{cases_lt, cond-true, cond-false}
 use Rattle.std.proofs.lemmas.List.{append-nil}
 use Rattle.xp_base.specs.Points.{Rectangle, IsRectangle}
-use Rattle.rect_regions.specs.Bands.{Each, GoesBefore, IsOrdered}
-use Rattle.rect_regions.specs.Making.{in_columns, columns, HasRows, IsBand, AppendsBand, RunsSoFar, run_to, with_run}
+use Rattle.rect_regions.specs.Bands.{Each, GoesBefore}
+use Rattle.rect_regions.specs.Making.{in_columns, HasRows, IsBand, AppendsBand, RunsSoFar, run_to, with_run}
 use Rattle.rect_regions.proofs.Rects.{Each-append, Each-weaker, Each-both, columns-append, IsOrdered-append}
 
 -- a row below a limit, where the limit does not matter

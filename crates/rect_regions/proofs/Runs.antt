@@ -1,12 +1,11 @@
 -- Runs of a row.
-use Rattle.std.proofs.Common.{◌≡◌, ℕ, suc, length, ◌+◌, ◌-◌, ◌<◌, ◌≤◌, ◌==◌, Bool, true, false, ◌&&◌, ◌||◌, List, [], ◌∷◌, ◌++◌, ◌⊎◌, inl, inr, refl, sym, ap, ◌∙◌, arith, append_assoc, ltb}
+use Rattle.std.proofs.Common.{◌≡◌, ℕ, suc, length, ◌+◌, ◌<◌, ◌≤◌, ◌==◌, Bool, true, false, ◌&&◌, ◌||◌, List, [], ◌∷◌, inl, inr, refl, sym, ap, ◌∙◌, arith}
 use Rattle.std.proofs.lemmas.Bool.Decides.{nat_tests}
-use Rattle.std.proofs.lemmas.Bool.{and_parts, cases_lt, cases_Bool}
-use Rattle.std.proofs.lemmas.List.{append-nil}
+use Rattle.std.proofs.lemmas.Bool.{and_parts, cases_lt}
 use Rattle.xp_base.specs.Points.{Rectangle, IsRectangle}
-use Rattle.rect_regions.specs.Bands.{Each, GoesBefore, IsOrdered}
-use Rattle.rect_regions.specs.Making.{in_columns, columns, same_runs, HasRows, IsBand, AppendsBand, RunsSoFar}
-use Rattle.rect_regions.proofs.Rects.{Each-append, Each-weaker, Each-both, columns-append, IsOrdered-append, columns-left, columns-right, gaps}
+use Rattle.rect_regions.specs.Bands.{Each, IsOrdered}
+use Rattle.rect_regions.specs.Making.{in_columns, columns, same_runs, HasRows, Gaps}
+use Rattle.rect_regions.proofs.Rects.{Each-weaker, columns-left, gaps}
 
 -- the same runs have the same columns
 same_columns : (r s : Rectangle) (x : ℕ) → ((r.x == s.x) && (r.w == s.w)) ≡ true → in_columns r x ≡ in_columns s x
@@ -20,11 +19,7 @@ columns-same_runs (r ∷ one) (s ∷ other) x same =
     let parts = and_parts _ _ same in
     ap (λ (b : Bool). b || columns one x) (same_columns r s x parts.0) ∙ ap (λ (b : Bool). in_columns s x || b) (columns-same_runs one other x parts.1)
 
--- rectangles from left to right with gaps between them
-abbrev pub Gaps : List Rectangle → Type 0
-Gaps [] = Unit {0}
-Gaps (r ∷ rects) = (1 ≤ r.w) × Each (λ s. r.x + r.w < s.x) rects × Gaps rects
-
+-- a band has gaps
 pub Gaps-band : (top bottom : ℕ) (band : List Rectangle) → Each IsRectangle band → Each (HasRows top bottom) band → IsOrdered band → Gaps band
 Gaps-band top bottom [] sized rows ordered = tt
 Gaps-band top bottom (r ∷ band) sized rows ordered =

@@ -1,5 +1,5 @@
 -- Rows of truth values, one for each point.
-use Rattle.std.specs.Prelude.{ℕ, ◌+◌, ◌*◌, ◌/◌, ◌%◌, ◌≤◌, ◌≡◌, Bool, true, false, ◌&&◌, List, map, slice_index_or}
+use Rattle.std.specs.Prelude.{ℕ, ◌*◌, ◌/◌, ◌%◌, ◌≤◌, ◌≡◌, Bool, true, false, ◌&&◌, List, map, slice_index_or}
 use Rattle.std.specs.List.{range_with_len}
 use Rattle.xp_base.specs.Points.{is_within}
 use Rattle.xp_base.specs.Grid.{place_of}

@@ -4,3 +4,5 @@ pub mod Combinations
 pub mod BitRows
 pub mod Bounding
 pub mod Making
+pub mod Sweeping
+pub mod BandLaws

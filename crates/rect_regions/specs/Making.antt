@@ -30,7 +30,12 @@ pub record HasRows (top bottom : ℕ) (r : Rectangle) : Type 0 where
 abbrev pub EndsBy : ℕ → Rectangle → Type 0
 EndsBy row r = r.y + r.h ≤ row
 
--- rectangles from left to right with gaps between them, in just these rows
+-- rectangles from left to right with gaps between them
+abbrev pub Gaps : List Rectangle → Type 0
+Gaps [] = Unit {0}
+Gaps (r ∷ rects) = (1 ≤ r.w) × Each (λ s. r.x + r.w < s.x) rects × Gaps rects
+
+-- the same in just these rows
 pub record IsBand (top bottom : ℕ) (band : List Rectangle) : Type 0 where
   pub sized : Each IsRectangle band
   pub rows : Each (HasRows top bottom) band

@@ -1,7 +1,7 @@
 use Rattle.std.proofs.Common.{◌≡◌, ℕ, ◌-◌, Bool, true, false, List, length, take, drop, sym, ap, ◌∙◌, arith}
 use Rattle.xp_base.specs.Points.{Rectangle}
 use Rattle.rect_regions.specs.Making.{IsExtended, goes_on}
-use Rattle.rect_regions.proofs.Joinings.{old_slice, band_slice, ending_slice, join_apart, join_on, ending_above}
+use Rattle.rect_regions.proofs.Joinings.{band_slice, ending_slice, join_apart, join_on, ending_above}
 use Rattle.rect_regions.proofs.bands.join_band.Goals as goal
 
 -- the answer of the question, as it speaks of the list's parts

@@ -1,5 +1,5 @@
-use Rattle.std.proofs.Common.{◌≡◌, ℕ, ◌+◌, ◌<◌, ◌≤◌, ◌++◌, [], ◌∷◌, List, map, take, drop, length, get_or, set, refl, sym, ap, ◌∙◌, arith, rules}
-use Rattle.std.proofs.lemmas.List.{length-set, append-nil, drop_at, take_all}
+use Rattle.std.proofs.Common.{◌≡◌, ◌<◌, length, get_or, refl, ◌∙◌, arith}
+use Rattle.std.proofs.lemmas.List.{length-set}
 use Rattle.xp_base.specs.Points.{Rectangle}
 use Rattle.rect_regions.specs.Making.{lengthened}
 use Rattle.rect_regions.proofs.Places.{Each-drop_at, same_next, lengthen_more, lengthen_rest, lengthen_first, lengthen_all}

@@ -1,5 +1,4 @@
-use Rattle.std.proofs.Common.{◌≡◌, ℕ, ◌+◌, ◌<◌, ◌≤◌, ◌==◌, ◌&&◌, Bool, true, false, List, [], ◌∷◌, take, drop, length, get_or, refl, sym, ap, ◌∙◌, arith, rules}
-use Rattle.rect_regions.specs.Making.{same_runs}
+use Rattle.std.proofs.Common.{sym}
 use Rattle.rect_regions.proofs.Runs.{same_runs-length}
 use Rattle.rect_regions.proofs.bands.same_runs.Goals as goal
 

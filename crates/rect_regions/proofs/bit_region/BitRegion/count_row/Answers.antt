@@ -1,4 +1,4 @@
-use Rattle.std.proofs.Common.{◌≡◌, ℕ, ◌≤◌, arith}
+use Rattle.std.proofs.Common.{arith}
 use Rattle.rect_regions.specs.BitRows.{has_mark}
 use Rattle.rect_regions.proofs.Counts.{sum_below_few}
 use Rattle.rect_regions.proofs.bit_region.BitRegion.count_row.Goals as goal

@@ -1,5 +1,4 @@
-use Rattle.std.proofs.Common.{◌≡◌, ℕ, ◌/◌, ◌%◌, true, false, sym, ◌∙◌, arith}
-use Rattle.rect_regions.specs.BitRows.{has_mark}
+use Rattle.std.proofs.Common.{sym, ◌∙◌}
 use Rattle.rect_regions.proofs.BitBounds.{bounds_on, bounds_off, bounds_end}
 use Rattle.rect_regions.proofs.bit_region.BitRegionPoints.bounds.Goals as goal
 use Rattle.rect_regions.proofs.bit_region.BitRegionPoints.bounds.Goals.{then-test, else-test}

@@ -1,4 +1,4 @@
-use Rattle.std.proofs.Common.{◌≡◌, ℕ, ◌+◌, ◌<◌, ◌≤◌, Bool, true, ap, arith}
+use Rattle.std.proofs.Common.{◌≡◌, ◌+◌, ◌<◌, ◌≤◌, ap, arith}
 use Rattle.rect_regions.specs.BitRows.{has_mark}
 use Rattle.rect_regions.proofs.RowSteps.{rows_joined_on, made_all}
 use Rattle.rect_regions.proofs.BitSteps.{mark_down}

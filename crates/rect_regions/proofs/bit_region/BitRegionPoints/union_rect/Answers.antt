@@ -1,4 +1,4 @@
-use Rattle.std.proofs.Common.{◌≡◌, ℕ, ◌+◌, ◌≤◌, ap, arith}
+use Rattle.std.proofs.Common.{◌+◌, ap, arith}
 use Rattle.xp_base.specs.Points.{Rectangle}
 use Rattle.rect_regions.proofs.Marks.{union_rect_within}
 use Rattle.rect_regions.proofs.bit_region.BitRegionPoints.union_rect.Goals as goal

@@ -1,0 +1,20 @@
+use Rattle.std.proofs.Common.{◌≡◌, ◌≤◌, ◌+◌, length, ap, arith}
+use Rattle.std.proofs.lemmas.Bool.Decides.{nat_tests}
+use Rattle.xp_base.specs.Points.{Rectangle}
+use Rattle.rect_regions.proofs.RunMerges.{run_gap_at, run_on_at}
+use Rattle.rect_regions.proofs.run_merge.run_at.Goals as goal
+
+pub returns-then-x-first : goal.returns-then-x-first
+returns-then-x-first c =
+    let r : Rectangle = c.index-left-0.result in
+    let some : 1 ≤ length c.args.left.now = grind (arith, nat_tests) in
+    let at : c.first.inside.x ≡ r.x = cc (ap (λ (q : Rectangle). q.x) c.first.view_is) in
+    run_gap_at c.args.left.now r c.args.x c.first.inside.x c.requires.runs some c.index-left-0.is at c.if-x-first.true
+
+pub returns : goal.returns
+returns c =
+    let r : Rectangle = c.index-left-0.result in
+    let some : 1 ≤ length c.args.left.now = grind (arith, nat_tests) in
+    let left : c.first.inside.x ≡ r.x = cc (ap (λ (q : Rectangle). q.x) c.first.view_is) in
+    let wide : c.first.inside.w ≡ r.w = cc (ap (λ (q : Rectangle). q.w) c.first.view_is) in
+    run_on_at c.args.left.now r c.args.x (c.first.inside.x + c.first.inside.w) c.requires.runs some c.index-left-0.is (omega arith) (omega (arith, c.if-x-first.false)) c.requires.reach
