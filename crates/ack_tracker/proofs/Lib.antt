@@ -1,3 +1,3 @@
-pub mod Found
-pub mod Edited
+pub mod Rising
 pub mod Walked
+pub mod InOrder

@@ -1,3 +1,4 @@
 pub mod Unacknowledged
 pub mod Places
+pub mod Kept
 pub mod Laws

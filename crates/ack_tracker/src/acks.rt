@@ -1,32 +1,32 @@
 // The unacknowledged draws of one window.
-ghost use Rattle.std.specs.Prelude.{◌≡◌, ◌+◌, ◌<◌, ◌≤◌, ◌^◌, [], length, Some, None, IsOk, OnOk, OnErr, IfOk, IfErr, MatchOption};
+ghost use Rattle.std.specs.Prelude.{◌≡◌, ◌+◌, ◌<◌, ◌≤◌, ◌^◌, ◌<ℤ◌, pos, [], length, None, IsOk, OnOk, OnErr, MatchOption};
 ghost use Rattle.delivery_model.specs.Events.{rect_sent};
 ghost use Rattle.ack_tracker.specs.Unacknowledged.{Tracked, sent_as, placed, rect_at, AckGives};
-ghost use Rattle.ack_tracker.specs.Places.{IsTracked, IsAt, IsGapFor, IsPlaceOf};
+ghost use Rattle.ack_tracker.specs.Places.{IsTracked};
 
 use crate::ack::Ack;
-use crate::unacknowledged::Unacknowledged;
 use std::alloc::Global;
+use std::collections::HashMap;
 use std::marker::Model;
 use xp_base::{NoMemory, Rect};
 
-/// The draws of one window that were queued and are not acknowledged, by rising sequence number.
-/// A draw is found by its number in logarithmic time.
-#[derive(Debug, Drop)]
+/// The draws of one window that were queued and are not acknowledged, by their sequence numbers. To
+/// queue a draw, to find one and to acknowledge one costs the same however many there are.
+#[derive(Drop)]
 pub struct Acks {
-    draws: Vec<Unacknowledged>,
+    draws: HashMap<u64, Rect>,
 }
 
 impl Model for Acks {
-    ghost use Rattle.std.specs.Prelude.{◌-◌, vec_len, vec_capacity};
+    ghost use Rattle.std.specs.HashMap.{spare};
     ghost use Rattle.ack_tracker.specs.Unacknowledged.{Tracked};
-    ghost use Rattle.ack_tracker.specs.Places.{IsTracked};
+    ghost use Rattle.ack_tracker.specs.Kept.{in_order, IsKept};
 
     ghost Value = { Tracked };
 
-    ghost view = { λ a. record { draws = a.draws.items; room = vec_capacity a.draws - vec_len a.draws } };
+    ghost view = { λ a. record { draws = in_order a.draws.entries; room = spare a.draws } };
 
-    ghost invariant = { λ a. IsTracked a.draws.items };
+    ghost invariant = { λ a. IsKept a.draws.entries };
 }
 
 impl Acks {
@@ -34,7 +34,7 @@ impl Acks {
         ensures { result.draws ≡ [] }
     {
         Acks {
-            draws: Vec::new(alloc),
+            draws: HashMap::new(alloc),
         }
     }
 
@@ -58,27 +58,16 @@ impl Acks {
         ensures reserved { 0 < self.old.room → IsOk result }
         ensures room { self.old.room ≤ self.new.room + 1 }
     {
-        match self.search(seq) {
-            Ok(_) => unreachable!(),
-            Err(at) => {
-                self.draws.insert(
-                    at,
-                    Unacknowledged {
-                        sequence: seq,
-                        rect: r,
-                    },
-                )?;
-                Ok(())
-            }
-        }
+        self.draws.insert(seq, r)?;
+        Ok(())
     }
 
     /// The rectangle of the unacknowledged draw with this number. `None` exactly where there is none.
     pub fn rect_of(&self, seq: i64) -> Option<Rect>
         ensures { result ≡ rect_at self.now.draws seq }
     {
-        let at = self.found(seq)?;
-        Some(self.draws[at].rect)
+        let number = number_of(seq)?;
+        self.draws.get(&number).copied()
     }
 
     /// The client says that it has drawn the draw with this number, in so many milliseconds; a negative
@@ -87,12 +76,14 @@ impl Acks {
         ensures answer { AckGives self.old.draws self.new.draws seq time result }
         ensures room { self.old.room ≤ self.new.room }
     {
-        let Some(at) = self.found(seq) else {
+        let Some(number) = number_of(seq) else {
             return Ack::Stray;
         };
-        let draw = self.draws.remove(at);
+        let Some(rect) = self.draws.remove(&number) else {
+            return Ack::Stray;
+        };
         if time < 0 {
-            return Ack::Again(draw.rect);
+            return Ack::Again(rect);
         }
         Ack::Counted
     }
@@ -104,25 +95,14 @@ impl Acks {
     {
         self.draws.len() as u32
     }
+}
 
-    // Where the draw with this number is, or would go.
-    fn search(&self, seq: u64) -> Result<usize, usize>
-        ensures found { IfOk result (IsAt self.now.draws seq) }
-        ensures absent { IfErr result (IsGapFor self.now.draws seq) }
-    {
-        self.draws.binary_search_by_key(&seq, |draw| draw.sequence)
+// The number of a draw that a client says; no draw has a negative one.
+fn number_of(seq: i64) -> Option<u64>
+    ensures { MatchOption result (seq <ℤ pos 0) (λ number. seq ≡ pos number) }
+{
+    if seq < 0 {
+        return None;
     }
-
-    // The place of the draw with a number that a client says.
-    fn found(&self, seq: i64) -> Option<usize>
-        ensures { MatchOption result (rect_at self.now.draws seq ≡ None) (IsPlaceOf self.now.draws seq) }
-    {
-        if seq < 0 {
-            return None;
-        }
-        match self.search(seq as u64) {
-            Ok(at) => Some(at),
-            Err(_) => None,
-        }
-    }
+    Some(seq as u64)
 }

@@ -4,7 +4,6 @@
 mod ack;
 mod acks;
 mod laws;
-mod unacknowledged;
 
 pub use ack::Ack;
 pub use acks::Acks;

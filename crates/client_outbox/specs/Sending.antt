@@ -34,6 +34,6 @@ SendGives line line' o o' max O.Again = (o.packets ≢ []) × WriteGives line li
 SendGives line line' o o' max O.Failed = (o.packets ≢ []) × WriteGives line line' (piece_of max o) W.Failed × (o' ≡ o)
 SendGives line line' o o' max O.NoMemory = (o.packets ≢ []) × WriteGives line line' (piece_of max o) W.NoMemory × (o' ≡ o)
 
--- the same of an outbox
-abbrev pub Sends : {R : Type 0} → ConnectionRecord → ConnectionRecord → Queue R → Queue R → ℕ → Out → Type 0
-Sends line line' q q' max out = SendGives line line' q.waiting q'.waiting max out
+-- the same of an outbox and one of a provider's connections
+abbrev pub SendsOn : {B R : Type 0} → (B → ℕ → ConnectionRecord) → B → B → ℕ → Queue R → Queue R → ℕ → Out → Type 0
+SendsOn connection bay bay' c q q' max out = SendGives (connection bay c) (connection bay' c) q.waiting q'.waiting max out

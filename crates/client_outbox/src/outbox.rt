@@ -3,7 +3,7 @@ ghost use Rattle.std.specs.Prelude.{◌≡◌, ◌+◌, ◌<◌, ◌≤◌, ◌^
 ghost use Rattle.xp_base.specs.Counts.{greatest};
 ghost use Rattle.link_bay.specs.Connections.{OthersStay};
 ghost use Rattle.client_outbox.specs.Outgoing.{nothing_waits, with_packet, unwritten, IsBegun, AllFit};
-ghost use Rattle.client_outbox.specs.Sending.{rest_of, piece_of, advanced, Sends};
+ghost use Rattle.client_outbox.specs.Sending.{rest_of, piece_of, advanced, SendsOn};
 ghost use Rattle.client_outbox.specs.Reliefs.{is_busy, relieve};
 
 use crate::out::Out;
@@ -83,7 +83,7 @@ impl<R: Points> Outbox<R> {
     pub fn send<B: Bay>(&mut self, bay: &mut B, c: Conn, max: u32) -> Out
         requires known { c.0 < (B.provider bay.old).count }
         requires some { 1 ≤ max }
-        ensures answer { Sends (B.connection bay.old c.0) (B.connection bay.new c.0) self.old self.new max result }
+        ensures answer { SendsOn B.connection bay.old bay.new c.0 self.old self.new max result }
         ensures others { OthersStay (B.connection bay.old) (B.connection bay.new) c.0 }
         ensures provider { B.provider bay.new ≡ B.provider bay.old }
         ensures room { self.old.room ≤ self.new.room }

@@ -1,26 +1,23 @@
-use Rattle.std.proofs.Common.{List, sym, ap, subst}
-use Rattle.delivery_model.specs.Window.{Sent}
-use Rattle.ack_tracker.specs.Unacknowledged.{Tracked}
-use Rattle.ack_tracker.specs.Places.{AreRising, IsGapFor}
-use Rattle.ack_tracker.proofs.Found.{rect_there, placed_in_gap}
-use Rattle.ack_tracker.proofs.Edited.{tracked_insert}
+use Rattle.std.proofs.Common.{◌≡◌, ◌+◌, ◌≤◌, length, None, sym, ◌∙◌, ap, arith}
+use Rattle.std.specs.Prelude.{nat_eq}
+use Rattle.std.specs.Map.{lookup}
+use Rattle.delivery_model.specs.Events.{rect_sent}
+use Rattle.ack_tracker.specs.Kept.{in_order}
+use Rattle.ack_tracker.specs.Unacknowledged.{Tracked, sent_as, placed}
+use Rattle.ack_tracker.proofs.InOrder.{rect_in_order, in_order_put, kept_put}
 use Rattle.ack_tracker.proofs.acks.Acks.queued.Goals as goal
 
--- no draw has the number
-pub unreachable-requires : goal.unreachable-requires
-unreachable-requires c =
+pub invariant_of-self-2 : goal.invariant_of-self-2
+invariant_of-self-2 c =
     let same = ap (λ (t : Tracked). t.draws) c.self.view_is in
-    let there = rect_there _ (subst AreRising same c.self.invariant.rising) _ _ c.in-Ok.ensures.found in
-    cc (there, c.requires.unused)
-
--- the draw goes into its gap
-pub invariant_of-self-in-Err : goal.invariant_of-self-in-Err
-invariant_of-self-in-Err c =
-    let same = ap (λ (t : Tracked). t.draws) c.self.view_is in
-    let gap = subst (λ (l : List Sent). IsGapFor l c.args.seq c.in-Err.at) (sym same) c.in-Err.ensures.absent in
-    rw c.in_ok-insert-in-Err.ensures.items (tracked_insert _ _ _ gap c.requires.small (rw same c.requires.few) c.self.invariant)
+    let unused : rect_sent (in_order c.self.inside.draws.entries) c.args.seq ≡ None = rw same c.requires.unused in
+    let absent : lookup (nat_eq c.args.seq) c.self.inside.draws.entries ≡ None = sym (rect_in_order _ c.args.seq c.self.invariant.distinct) ∙ unused in
+    let facts = c.in_ok-insert.ensures in
+    let sized : length c.insert.new.self.entries ≤ length c.self.inside.draws.entries + 1 = omega (arith, rw (facts.old ∙ absent) at facts.len) in
+    kept_put _ _ c.self.invariant facts.unique c.args.seq c.args.r c.requires.small (rw same c.requires.few) unused sized facts.updates.0
 
 pub returns-clause-ok : goal.returns-clause-ok
 returns-clause-ok c =
     let same = ap (λ (t : Tracked). t.draws) c.self.view_is in
-    rw (c.in_ok-insert-in-Err.ensures.items, same) (sym (placed_in_gap _ _ _ c.in-Err.ensures.absent))
+    let facts = c.in_ok-insert.ensures in
+    in_order_put _ _ c.self.invariant.distinct facts.unique c.args.seq c.args.r (rw same c.requires.unused) facts.updates.0 ∙ ap (λ draws. placed draws (sent_as c.args.seq c.args.r)) same
