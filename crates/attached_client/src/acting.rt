@@ -9,8 +9,8 @@ ghost use Rattle.attached_client.specs.Client.{weight, pixels_in_hand};
 use crate::client::{Attached, put, source_place};
 use crate::packets::plain_packet_of;
 use ack_tracker::Ack;
-use listed_region::ListedRegion as Region;
 use packet_kinds::{FromClient, ToClient};
+use rect_regions::Region;
 use window_source::WindowSource;
 use xp_base::{NoMemory, keyed_keeps, keyed_places};
 

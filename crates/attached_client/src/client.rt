@@ -7,7 +7,7 @@ ghost use Rattle.attached_client.specs.Acting.{place_with, place_named};
 use crate::packets::{announcement, hello_packet_for};
 use client_outbox::{Outbox, Packet};
 use hello_caps::Caps;
-use listed_region::ListedRegion as Region;
+use rect_regions::Region;
 use std::alloc::Global;
 use std::marker::Model;
 use window_model::{Desk, Geometry};

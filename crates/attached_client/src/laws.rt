@@ -7,11 +7,11 @@ use client_delivery::{
     what_a_client_says_keeps_what_is_told,
 };
 use hello_caps::the_server_spells;
-use listed_region::ListedRegion as Region;
 use packet_kinds::{
     a_plain_message_has_a_small_value, a_plain_message_may_be_written,
     what_is_written_is_read_as_the_same_message,
 };
+use rect_regions::Region;
 use window_source::WindowSource;
 use xp_base::keyed_finds;
 

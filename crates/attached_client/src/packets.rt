@@ -6,12 +6,12 @@ ghost use Rattle.attached_client.specs.Client.{plain_packet, hello_packet, annou
 
 use client_outbox::Packet;
 use hello_caps::{Caps, server_hello, the_server_spells};
-use listed_region::ListedRegion as Region;
 use packet_frames::write_packet;
 use packet_kinds::{
     ToClient, a_message_has_bytes, a_plain_message_has_a_small_value,
     a_plain_message_may_be_written, to_bytes, what_is_written_is_read_as_the_same_message,
 };
+use rect_regions::{Points, Region, equal_by_points};
 use std::alloc::Global;
 use window_model::Geometry;
 use xp_base::NoMemory;
@@ -21,10 +21,14 @@ fn bare_packet(alloc: Global, bytes: Vec<u8>) -> Packet<Region>
     requires { 0 < vec_len bytes }
     ensures { result ≡ other_packet bytes.items [] }
 {
+    equal_by_points();
+    let relief = Region::new(alloc);
+    // For the proof: the region is the row-band list of its points.
+    let _pieces = relief.pieces();
     Packet {
         wid: None,
         bytes,
-        relief: Region::empty(alloc),
+        relief,
         draw: None,
     }
 }

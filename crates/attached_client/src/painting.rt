@@ -10,7 +10,7 @@ ghost use Rattle.attached_client.specs.Painting.{opening_of, opened_with, IsDama
 use crate::client::{Attached, place_of_window};
 use crate::packets::announcement;
 use client_outbox::Packet;
-use listed_region::ListedRegion as Region;
+use rect_regions::Region;
 use std::marker::Model;
 use window_model::Geometry;
 use window_source::WindowSource;
