@@ -1,0 +1,10 @@
+//! What is kept of a connection that is open, beside what its provider knows of it, and that each step keeps it. Here are
+//! definitions and what follows from them; the session that takes the steps stands above.
+#![tactic(auto)]
+
+mod laws;
+
+pub use laws::{
+    a_write_keeps_a_connection, an_accepted_connection_is_kept, differing_pixels_are_owed,
+    hearing_keeps_a_connection, what_ends_a_talk_was_given,
+};
