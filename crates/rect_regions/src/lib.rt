@@ -11,6 +11,7 @@ mod bit_rows;
 mod bounding;
 mod combination;
 mod laws;
+mod moves;
 mod operations;
 mod region;
 mod run_merge;
@@ -19,5 +20,6 @@ mod sweep;
 
 pub use bit_region::BitRegion;
 pub use laws::{equal_by_points, one_row_band_list};
+pub use moves::region_types_move;
 pub use operations::Points;
 pub use region::Region;
