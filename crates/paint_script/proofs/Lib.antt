@@ -1,0 +1,6 @@
+mod Openings
+mod Desks
+mod Scripts
+mod Texts
+mod Keeping
+mod Rounds

@@ -1,0 +1,63 @@
+-- What the definitions of scripts come to.
+use Rattle.std.specs.Prelude.{ℕ, ℤ, ◌+◌, ◌<◌, ◌≤◌, ◌≡◌, Some, None, Ok, Err, List, [], length, slice_get}
+use Rattle.window_model.specs.Desktop.{Window, IsDesktop, opened, filled_on, copied_on, noised_on, resized_on, moved_on, raised, without_window}
+use Rattle.script_lines.specs.declared.paint.Paint.{Paint}
+use Rattle.script_lines.specs.declared.paint.Paint.TheVariants.{Open, Close, Fill, Copy, Noise, Resize, Move, Raise}
+use Rattle.script_lines.specs.declared.line.Line.{Line}
+use Rattle.script_lines.specs.Text.{lines_of}
+use Rattle.paint_script.specs.declared.fault.ScriptFault.{ScriptFault}
+use Rattle.paint_script.specs.Painting.{rectangle, painted, desk_at, last_desk}
+use Rattle.paint_script.specs.Validity.{ArePaints, pixel_count, paint_lines}
+use Rattle.paint_script.specs.Faults.{IsScript}
+use Rattle.paint_script.specs.Text.{script_of, fault_at, made_of}
+
+abbrev pub DeskAtStart : Type 0
+DeskAtStart = (lines : List Paint) → desk_at lines 0 ≡ []
+
+abbrev pub DeskAtNext : Type 0
+DeskAtNext = (lines : List Paint) (place : ℕ) (line : Paint) → slice_get lines place ≡ Some line
+    → desk_at lines (place + 1) ≡ painted (desk_at lines place) line
+
+abbrev pub DeskAtEnd : Type 0
+DeskAtEnd = (lines : List Paint) (place : ℕ) → length lines ≤ place → desk_at lines place ≡ last_desk lines
+
+-- what each kind of line paints
+pub record PaintedLines : Type 0 where
+  pub opening : (desk : List Window) (wid : ℕ) (x y : ℤ) (w h : ℕ) → painted desk (Open wid x y w h) ≡ opened desk wid x y w h
+  pub closing : (desk : List Window) (wid : ℕ) → painted desk (Close wid) ≡ without_window desk wid
+  pub filling : (desk : List Window) (wid x y w h c : ℕ) → painted desk (Fill wid x y w h c) ≡ filled_on desk wid (rectangle x y w h) c
+  pub copying : (desk : List Window) (wid x y w h tx ty : ℕ) → painted desk (Copy wid x y w h tx ty) ≡ copied_on desk wid (rectangle x y w h) tx ty
+  pub noising : (desk : List Window) (wid x y w h seed : ℕ) → painted desk (Noise wid x y w h seed) ≡ noised_on desk wid (rectangle x y w h) seed
+  pub resizing : (desk : List Window) (wid w h : ℕ) → painted desk (Resize wid w h) ≡ resized_on desk wid w h
+  pub moving : (desk : List Window) (wid : ℕ) (x y : ℤ) → painted desk (Move wid x y) ≡ moved_on desk wid x y
+  pub raising : (desk : List Window) (wid : ℕ) → painted desk (Raise wid) ≡ raised desk wid
+
+-- after any number of valid lines
+pub record ValidDesks : Type 0 where
+  pub desktop : (lines : List Paint) (place : ℕ) → ArePaints lines → IsDesktop (desk_at lines place)
+  pub windows : (lines : List Paint) (place : ℕ) → ArePaints lines → length (desk_at lines place) ≤ 32
+  pub pixels : (lines : List Paint) (place : ℕ) → ArePaints lines → pixel_count (desk_at lines place) ≤ 4194304
+
+-- the paint lines of a script are valid
+abbrev pub ScriptPaints : Type 0
+ScriptPaints = (lines : List Line) → IsScript lines → ArePaints (paint_lines lines)
+
+-- a text is these lines: it is short, no line of it has a fault, and they are what its lines are
+pub record IsScriptOf (text : List ℕ) (lines : List Line) : Type 0 where
+  pub short : length text ≤ 33554432
+  pub faultless : (place : ℕ) → place < length (lines_of text) → fault_at (lines_of text) place ≡ None
+  pub made : lines ≡ made_of (lines_of text)
+
+-- a text has this fault at the line with this number, and none before it
+pub record IsFaultOf (text : List ℕ) (place : ℕ) (fault : ScriptFault) : Type 0 where
+  pub short : length text ≤ 33554432
+  pub there : place < length (lines_of text)
+  pub number : fault.line ≡ place + 1
+  pub is : fault_at (lines_of text) place ≡ Some fault.why
+  pub first : (before : ℕ) → before < place → fault_at (lines_of text) before ≡ None
+
+-- which lines a text is, and which fault it has
+pub record ScriptsOfTexts : Type 0 where
+  pub read : (text : List ℕ) (lines : List Line) → script_of text ≡ Ok lines → IsScriptOf text lines
+  pub only : (text : List ℕ) (lines : List Line) → IsScriptOf text lines → script_of text ≡ Ok lines
+  pub fault : (text : List ℕ) (place : ℕ) (fault : ScriptFault) → IsFaultOf text place fault → script_of text ≡ Err fault
