@@ -68,6 +68,11 @@ module _ {R : Type 0} (has : R → ℕ → ℕ → Bool) (have : PointsHave) whe
         rw (of.pending, held.held, have window.desk.wide window.desk.high (has old.pending) x y, reliefs_seen window.desk.wide window.desk.high jobs x y)
         (pends_so (is_within window.desk.wide window.desk.high x y) (is_within w h x y) (has old.pending x y) (relieve has jobs x y) inside ∙ sym (carried.pending x y))
 
+    pub carried_points : (w h now : ℕ) (window : Window) (jobs : List (HeldJob R)) (old : BatchSeen R) (lossy : R) (c : CarriedSeen R) → IsBatchOf has window.desk.wide window.desk.high old window → AreJobsOf has window.desk.wide window.desk.high jobs window
+        → IsCarried has window.desk.wide window.desk.high w h jobs old.pending lossy c → points w h (has c.pending) ≡ (resized w h now window).pending
+    carried_points w h now window jobs old lossy c of held carried =
+        sym (alike w h (λ x y. not (survives window.desk.wide window.desk.high w h x y) || (has_mark window.pending x y || jobs_relieve window.jobs x y)) (has c.pending) (same_carried w h window jobs old lossy c of held carried))
+
     pub carried_pends : (w h now : ℕ) (window : Window) (jobs : List (HeldJob R)) (old new : BatchSeen R) (lossy : R) (c : CarriedSeen R) → IsBatchOf has window.desk.wide window.desk.high old window → AreJobsOf has window.desk.wide window.desk.high jobs window
         → IsCarried has window.desk.wide window.desk.high w h jobs old.pending lossy c → Puts has old c.pending now new → IsBatchOf has w h new (resized w h now window)
     carried_pends w h now window jobs old new lossy c of held carried put =

@@ -1,6 +1,7 @@
 -- What giving back and a resize come to in the model's window: where its parts were those before, they are those after.
 use Rattle.std.specs.Prelude.{ℕ, ◌≡◌, Bool, ◌&&◌, List}
 use Rattle.xp_base.specs.Points.{is_within}
+use Rattle.delivery_model.specs.Grids.{points}
 use Rattle.delivery_model.specs.Window.{Window}
 use Rattle.delivery_model.specs.Events.{jobs_relieve, given_back, resized}
 use Rattle.draw_sequencer.specs.InHand.{HeldJob, relieve}
@@ -26,3 +27,11 @@ CarriedIsPending {R} has =
     → IsBatchOf has window.desk.wide window.desk.high old window → AreJobsOf has window.desk.wide window.desk.high jobs window
     → IsCarried has window.desk.wide window.desk.high w h jobs old.pending lossy c → Puts has old c.pending now new
     → IsBatchOf has w h new (resized w h now window)
+
+-- and so are the points themselves
+abbrev pub CarriedArePoints : {R : Type 0} → (R → ℕ → ℕ → Bool) → Type 0
+CarriedArePoints {R} has =
+    (w h now : ℕ) (window : Window) (jobs : List (HeldJob R)) (old : BatchSeen R) (lossy : R) (c : CarriedSeen R)
+    → IsBatchOf has window.desk.wide window.desk.high old window → AreJobsOf has window.desk.wide window.desk.high jobs window
+    → IsCarried has window.desk.wide window.desk.high w h jobs old.pending lossy c
+    → points w h (has c.pending) ≡ (resized w h now window).pending

@@ -1,5 +1,5 @@
 // What giving back and a resize come to in the model's window, each law the clause of a function that at most cites others.
-ghost use Rattle.resize_cancel.specs.Laws.{ReliefsAreJobs, GivenBackIsPending, CarriedIsPending};
+ghost use Rattle.resize_cancel.specs.Laws.{ReliefsAreJobs, GivenBackIsPending, CarriedIsPending, CarriedArePoints};
 
 use damage_batch::damage_is_pending;
 use delivery_model::points_are_their_tests;
@@ -22,7 +22,8 @@ pub fn giving_back_is_damage<R: Points>()
 
 /// What was carried over is pending in the model's window after a resize.
 pub fn a_resize_carries_over<R: Points>()
-    ensures { CarriedIsPending R.has }
+    ensures batch { CarriedIsPending R.has }
+    ensures points { CarriedArePoints R.has }
 {
     points_are_their_tests();
     damage_is_pending::<R>();
