@@ -3,8 +3,6 @@
 #![tactic(auto)]
 
 #[cfg(test)]
-mod acks;
-#[cfg(test)]
 mod base;
 #[cfg(test)]
 mod bays;

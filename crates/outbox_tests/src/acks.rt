@@ -4,7 +4,7 @@ use std::test::Fail;
 use xp_base::{NoMemory, Rect};
 
 /// Queues a draw where its number may be: whether it may.
-fn queue(acks: &mut Acks, sequence: i64, rect: Rect) -> Result<bool, NoMemory> {
+pub fn queue(acks: &mut Acks, sequence: i64, rect: Rect) -> Result<bool, NoMemory> {
     if acks.rect_of(sequence).is_some() || acks.load() >= 1000 {
         return Ok(false);
     }
@@ -56,5 +56,18 @@ fn a_draw_goes_to_the_place_of_its_number(rt: HostRuntime) -> Result<(), Fail> {
         assert_eq!(rt; acks.rect_of(sequence), Rect::new(x, 0, 1, 1), "{sequence}");
     }
     assert_eq!(rt; acks.rect_of(-10), None);
+    Ok(())
+}
+
+#[test]
+fn a_draw_that_could_not_be_drawn_is_drawn_again_once(rt: HostRuntime) -> Result<(), Fail> {
+    let mut acks = Acks::new(rt.alloc());
+    let rect = Rect::new(0, 0, 1, 1).ok_or("a rectangle")?;
+    assert!(rt; queue(&mut acks, 1, rect)?);
+    assert_eq!(rt; acks.ack(1, -1), Ack::Again(rect));
+    assert_eq!(rt; acks.ack(1, -1), Ack::Stray);
+    assert!(rt; queue(&mut acks, 1, rect)?);
+    assert_eq!(rt; acks.ack(1, 0), Ack::Counted);
+    assert_eq!(rt; acks.load(), 0);
     Ok(())
 }
