@@ -1,6 +1,6 @@
 -- Each differing pixel is owed.
 use Rattle.std.proofs.Common.{◌≡◌, ◌≢◌, ℕ, ◌<◌, ◌*◌, Bool, true, false, ◌&&◌, ◌||◌, List, [], ◌∷◌, ◌++◌, Option, Some, None, length, take, drop, cond, eqb, refl, sym, ap, ◌∙◌, subst, arith}
-use Rattle.std.specs.Prelude.{All}
+use Rattle.std.specs.Prelude.{All, is_some}
 use Rattle.std.specs.Option.{option_map, option_and_then}
 use Rattle.std.specs.List.{AllByRecursion}
 use Rattle.std.proofs.lemmas.Bool.{cond-true, cond-false}
@@ -10,7 +10,7 @@ use Rattle.xp_base.specs.Points.{Rectangle, is_within}
 use Rattle.xp_base.specs.Grid.{number_at}
 use Rattle.xp_base.specs.KeyedLaws.{KeyedFinds}
 use Rattle.rect_regions.specs.PointSets.{has as has_point}
-use Rattle.window_model.specs.Desktop.{Window, IsDesktop, find_window}
+use Rattle.window_model.specs.Desktop.{Window, IsDesktop, find_window, has_window}
 use Rattle.delivery_model.specs.Grids.{has, shown_at, number}
 use Rattle.delivery_model.specs.Events.{jobs_relieve}
 use Rattle.delivery_model.specs.Owed.{is_owed}
@@ -25,6 +25,7 @@ use Rattle.window_source.specs.Waiting.{Queued, Waiting, Carries, client_limit, 
 use Rattle.client_delivery.specs.Attached.{AttachedSeen, source_key, find_source, grid_of}
 use Rattle.client_delivery.specs.Delivered.{packets_of, front_bytes, delivery, AreOfOneSize, IsSized, IsOnItsWay, IsTold}
 use Rattle.client_delivery.specs.Owed.{source_owes, owes_in, owes, shows, number_on, Differs, OwesWhatDiffers}
+use Rattle.client_delivery.specs.Keeping.{ToldShowsOpened}
 use Rattle.client_delivery.specs.Owing.{ToldOwesWhatDiffers}
 use Rattle.client_delivery.proofs.Grids.{some_same, pixels_grid, number_at_is}
 use Rattle.client_delivery.proofs.Parts.{found_window}
@@ -43,6 +44,12 @@ shows_told part o sent windows ws way = ap (λ (p : Picture). p.windows) (ap (pi
         let some : drop o.taken v.packet.bytes ≢ [] = λ none. absurd (let size = ap length none in let long = length-drop o.taken v.packet.bytes in omega (arith, begun, size, long)) in
         ap (λ (bs : List ℕ). picture client_limit (way.done ++ bs)) front
         ∙ part client_limit way.done v.packet.bytes (take o.taken v.packet.bytes) (drop o.taken v.packet.bytes) v.message windows way.show carried.0.message (sym (take-append-drop o.taken v.packet.bytes)) some
+
+-- the client shows no window that no line so far has opened
+pub shows_opened : PartShowsNothing → ToldShowsOpened
+shows_opened part desk were_opened a sent k told unopened =
+    ap (λ (windows : List Window). has_window windows k) (shows_told part a.out sent told.windows told.waiting told.bytes)
+    ∙ ap is_some (told.delivered.absent k unopened).0
 
 -- what is owed of a source's window is what the model says
 pub owed_same : PointsHave → (window : Window) (windows : List Window) (s : SourceSeen) (ws : List Waiting) (packets : List Queued) (x y : ℕ) → s.wid ≡ window.wid → packets_of ws ≡ packets → AllByRecursion Carries ws

@@ -13,6 +13,7 @@ use Rattle.packet_kinds.specs.Written.{Show}
 use Rattle.window_source.specs.Waiting.{client_limit}
 use Rattle.client_delivery.specs.Attached.{AttachedSeen, find_source, grid_of}
 use Rattle.client_delivery.specs.Delivered.{IsTold, layout}
+use Rattle.client_delivery.specs.Owed.{shows}
 use Rattle.client_delivery.specs.Steps.{Attaches, Quiet, quiet, changes_source, Opens, Closes, Resizes, PutsAlone, Captures, Files, writes}
 
 -- the numbers opened so far hold those of the desktop
@@ -81,3 +82,7 @@ WillShowTheDesktop desk a sent = (after : List Window) × Show client_limit (sen
 
 abbrev pub ToldLaysOut : Type 0
 ToldLaysOut = (desk : List Window) (were_opened : ℕ → Bool) (a : AttachedSeen) (sent : List ℕ) → IsTold desk were_opened a sent → WillShowTheDesktop desk a sent
+
+-- the client shows no window with a number that no line so far has opened
+abbrev pub ToldShowsOpened : Type 0
+ToldShowsOpened = (desk : List Window) (were_opened : ℕ → Bool) (a : AttachedSeen) (sent : List ℕ) (k : ℕ) → IsTold desk were_opened a sent → were_opened k ≡ false → has_window (shows sent) k ≡ false

@@ -14,11 +14,13 @@ ghost use Rattle.client_delivery.specs.Keeping.{
   FileKeeps,
   WriteKeeps,
   ToldLaysOut,
+  ToldShowsOpened,
 };
 
 use delivery_model::{every_event_keeps_the_form, grids_are_their_numbers, points_are_their_tests};
 use packet_kinds::{
-    a_message_follows, a_message_has_bytes, nothing_is_shown_at_first, one_window_changes,
+    a_message_follows, a_message_has_bytes, a_part_shows_nothing, nothing_is_shown_at_first,
+    one_window_changes,
 };
 use window_model::{blank_shows, drawn_sizes, placed_shows, resized_shows};
 
@@ -86,4 +88,11 @@ pub fn what_waits_lays_out_the_desktop()
     ensures { ToldLaysOut }
 {
     a_message_follows();
+}
+
+/// A client shows no window with a number that no line so far has opened.
+pub fn only_opened_windows_are_shown()
+    ensures { ToldShowsOpened }
+{
+    a_part_shows_nothing();
 }

@@ -7,8 +7,8 @@ mod owing;
 
 pub use keeping::{
     a_client_that_attaches_is_told, each_paint_keeps_what_is_told, each_write_keeps_what_is_told,
-    what_a_client_says_keeps_what_is_told, what_is_drawn_keeps_what_is_told,
-    what_waits_lays_out_the_desktop,
+    only_opened_windows_are_shown, what_a_client_says_keeps_what_is_told,
+    what_is_drawn_keeps_what_is_told, what_waits_lays_out_the_desktop,
 };
 pub use numbering::{
     a_window_begins_numbered, each_delivery_keeps_the_numbering, each_paint_keeps_the_numbering,

@@ -70,6 +70,27 @@ module _ {A : Type 0} (acts : Acts A) where
       message later (Err i) goes = absurd (cc)
       message later (Ok m) goes = said later m (is_leaving m) goes
 
+  -- and however it ends
+  pub keeps_caps_ever : (caps_of : A → Caps) → HasCaps acts caps_of → (a : A) (n : ℕ) (packets : List Packet) (fault : Option Fault)
+      → (b : A) × ((handled acts (Some a) n packets fault).attached ≡ Some b) × (caps_of b ≡ caps_of a)
+  unfolding handled
+  keeps_caps_ever caps_of has a n [] None = (a, refl, refl)
+  keeps_caps_ever caps_of has a n [] (Some f) = (a, refl, refl)
+  keeps_caps_ever caps_of has a n (p ∷ packets) fault = message (λ b k. keeps_caps_ever caps_of has b k packets fault) (from_client p.value)
+    where
+      Later : Type 0
+      Later = (b : A) (k : ℕ) → (c : A) × ((handled acts (Some b) k packets fault).attached ≡ Some c) × (caps_of c ≡ caps_of b)
+
+      said : Later → (m : FromClient) (b : Bool) → (c : A) × ((after_said acts a n m b (λ s k. handled acts s k packets fault)).attached ≡ Some c) × (caps_of c ≡ caps_of a)
+      said later m true = (a, refl, refl)
+      said later m false =
+          let kept = later (acts.act m a) (if acts.ignores m a then n + 1 else n) in
+          (kept.0, kept.1, kept.2 ∙ has.act m a)
+
+      message : Later → (r : Result FromClient ℕ) → (c : A) × ((after_message acts a n p.place r (λ s k. handled acts s k packets fault)).attached ≡ Some c) × (caps_of c ≡ caps_of a)
+      message later (Err i) = (a, refl, refl)
+      message later (Ok m) = said later m (is_leaving m)
+
   -- a mark is what the packets say of it
   pub marks : (wid : ℕ) (mark_of : A → Option Bool) → Marks acts wid mark_of → (a : A) (was : Bool) → mark_of a ≡ Some was → (n : ℕ) (packets : List Packet) (fault : Option Fault) → (handled acts (Some a) n packets fault).ended ≡ None
       → (b : A) → (handled acts (Some a) n packets fault).attached ≡ Some b → mark_of b ≡ Some (marked wid was (heard fault packets).said)

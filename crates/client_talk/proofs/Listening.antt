@@ -95,7 +95,7 @@ module _ {A : Type 0} (acts : Acts A) (caps_of : A → Caps) (has : HasCaps acts
       greets (Err f) is on = subst (λ (g : Ending). HasEnding g (talk_of fault (p ∷ ps))) {x = E.Refused f} (cc on) (ap (λ (r : Result Caps HelloFault). Some r) is)
       greets (Ok caps) is on = some_ends (p ∷ []) (acts.attach caps) n ps fault e (greeted_talk p caps is) on
 
-  nothing_said : (packets : List Packet) → GoesOn None (talk_of None packets) → packets ≡ []
+  pub nothing_said : (packets : List Packet) → GoesOn None (talk_of None packets) → packets ≡ []
   nothing_said [] goes = refl
   nothing_said (p ∷ packets) goes = absurd (let e = goes.0 in cc e)
 

@@ -1,13 +1,16 @@
 -- What follows from what is kept.
 use Rattle.std.specs.Prelude.{ℕ, ◌<◌, ◌≤◌, ◌≡◌, Bool, true, false, Option, Some, None, List, [], ◌++◌, length, replicate}
 use Rattle.std.specs.Option.{option_map}
-use Rattle.packet_frames.specs.Following.{Framing}
+use Rattle.packet_frames.specs.Stream.{Packet, Fault}
+use Rattle.packet_frames.specs.Following.{Framing, left_of, fed}
 use Rattle.hello_caps.specs.declared.caps.Caps.{Caps}
+use Rattle.hello_caps.specs.declared.caps.HelloFault.{HelloFault}
 use Rattle.packet_kinds.specs.declared.from_client.FromClient.{FromClient}
 use Rattle.packet_kinds.specs.Talk.{Said, talk}
 use Rattle.client_talk.specs.declared.ending.Ending.{Ending}
-use Rattle.client_talk.specs.Talked.{server_limit, HasEnding}
-use Rattle.client_talk.specs.Handling.{Acts}
+use Rattle.client_talk.specs.declared.ending.Ending.TheVariants as E
+use Rattle.client_talk.specs.Talked.{server_limit, HasGreeted, HasEnding}
+use Rattle.client_talk.specs.Handling.{Acts, handled}
 use Rattle.client_talk.specs.Marks.{mark_after, marked}
 use Rattle.client_talk.specs.Mapped.{IsShownBy, Maps}
 use Rattle.client_talk.specs.Kept.{IsListening, Hears, EndsHearing, IsMarked}
@@ -25,6 +28,23 @@ GoesOnListening A = (acts : Acts A) (caps_of : A → Caps) (given bytes : List �
 abbrev pub EndsForItsCause : Type 0 → Type 0
 EndsForItsCause A = (acts : Acts A) (caps_of : A → Caps) (given bytes : List ℕ) (f : Framing) (attached attached' : Option A) (ending : Ending) (ignored : ℕ) → HasCaps acts caps_of
     → IsListening given f (option_map caps_of attached) → EndsHearing acts f attached bytes ending attached' ignored → HasEnding ending (talk server_limit (given ++ bytes))
+
+-- a client that goes on has an accepted hello in the bytes given, of these capabilities
+abbrev pub GoingIsGreeted : Type 0
+GoingIsGreeted = (caps : Caps) (given : List ℕ) (f : Framing) → IsListening given f (Some caps) → HasGreeted (talk server_limit given) caps
+
+-- one that some packets of a read attached has its hello in the bytes given by then, whatever becomes of it in that read
+abbrev pub AttachedIsGreeted : Type 0 → Type 0
+AttachedIsGreeted A = (acts : Acts A) (caps_of : A → Caps) (given bytes : List ℕ) (f : Framing) (before after : List Packet) (fault : Option Fault) (a : A) → HasCaps acts caps_of
+    → IsListening given f None → (left_of (fed f bytes)).packets ≡ before ++ after → (handled acts None 0 before fault).attached ≡ Some a → HasGreeted (talk server_limit (given ++ bytes)) (caps_of a)
+
+-- a client whose hello was accepted keeps its capabilities, and is not refused
+abbrev pub AttachedStays : Type 0 → Type 0
+AttachedStays A = (acts : Acts A) (caps_of : A → Caps) (a : A) (packets : List Packet) (fault : Option Fault) → HasCaps acts caps_of
+    → (b : A) × ((handled acts (Some a) 0 packets fault).attached ≡ Some b) × (caps_of b ≡ caps_of a)
+
+abbrev pub RefusedAtFirst : Type 0 → Type 0
+RefusedAtFirst A = (acts : Acts A) (a : A) (packets : List Packet) (fault : Option Fault) (why : HelloFault) → (handled acts (Some a) 0 packets fault).ended ≡ Some (E.Refused why) → ⊥
 
 -- a window's mark in a client that has the window, and what messages make of it
 abbrev pub Marks : {A : Type 0} → Acts A → ℕ → (A → Option Bool) → Type 0

@@ -2,6 +2,10 @@
 ghost use Rattle.client_talk.specs.Laws.{
   GoesOnListening,
   EndsForItsCause,
+  GoingIsGreeted,
+  AttachedIsGreeted,
+  AttachedStays,
+  RefusedAtFirst,
   MarksFollow,
   MarkBegins,
   MarkHears,
@@ -29,6 +33,23 @@ pub fn an_ending_has_its_cause<T>()
     packets_before_stay();
     a_talk_goes_packet_by_packet();
 }
+
+/// A client that is there has an accepted hello in the bytes given: one that goes on, and one that a read attached,
+/// whatever else that read said.
+pub fn a_client_is_greeted_by_its_bytes<T>()
+    ensures going { GoingIsGreeted }
+    ensures attached { AttachedIsGreeted T }
+{
+    appending_reads_on();
+    packets_before_stay();
+    a_talk_goes_packet_by_packet();
+}
+
+/// A client whose hello was accepted keeps its capabilities, whatever it says and however it ends; it is not refused.
+pub fn a_greeted_client_stays_so<T>()
+    ensures caps { AttachedStays T }
+    ensures refused { RefusedAtFirst T }
+{}
 
 /// A read says some messages more, and a window's mark is what they make of it.
 pub fn marks_follow_the_talk<T>()

@@ -8,6 +8,6 @@ mod laws;
 
 pub use ending::Ending;
 pub use laws::{
-    a_mapped_window_is_marked, an_ending_has_its_cause, marks_follow_the_talk, marks_stay_true,
-    the_talk_goes_on,
+    a_client_is_greeted_by_its_bytes, a_greeted_client_stays_so, a_mapped_window_is_marked,
+    an_ending_has_its_cause, marks_follow_the_talk, marks_stay_true, the_talk_goes_on,
 };

@@ -45,7 +45,7 @@ module _ (more_says : (limit : ℕ) (bytes more : List ℕ) → Continues (talk 
   stays desk was now now' k E.Left same on is = rw same is
   stays desk was now now' k (E.Refused fault) same on is = rw same is
   stays desk was now now' k (E.Broken place fault) same on is = rw same is
-  stays desk was now now' k (E.TakenOver c) same on is = (is.0, rw same (both_still (now k).given (now c.0).given (now' c.0).given (on c.0) is.1))
+  stays desk was now now' k (E.TakenOver c) same on is = (is.0, rw same (both_still (now k).given (now c.0).given (now' c.0).given on is.1))
   stays desk was now now' k E.LinkFault same on is = rw same is
   stays desk was now now' k E.Stalled same on is = rw same is
   stays desk was now now' k E.Flooded same on is = rw same is

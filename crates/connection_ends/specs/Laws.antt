@@ -13,9 +13,14 @@ GoOn None (Some now) = ⊥
 GoOn (Some was) None = ⊥
 GoOn (Some was) (Some now) = (more : List ℕ) × (now ≡ was ++ more)
 
--- an ended connection keeps its cause, as long as nothing becomes of it, while others give more
+-- where a later connection took this one over, that one gives more perhaps
+abbrev pub TakerGoesOn : (ℕ → ConnectionRecord) → (ℕ → ConnectionRecord) → End → Type 0
+TakerGoesOn now now' (E.TakenOver c) = GoOn (now c.0).given (now' c.0).given
+TakerGoesOn now now' e = Unit {0}
+
+-- an ended connection keeps its cause, as long as nothing becomes of it, while the one that took it over gives more
 abbrev pub CausesStay : Type 0
-CausesStay = (desk : List Window) (was now now' : ℕ → ConnectionRecord) (k : ℕ) (e : End) → now' k ≡ now k → ((j : ℕ) → GoOn (now j).given (now' j).given)
+CausesStay = (desk : List Window) (was now now' : ℕ → ConnectionRecord) (k : ℕ) (e : End) → now' k ≡ now k → TakerGoesOn now now' e
     → HasCause desk was now k e → HasCause desk was now' k e
 
 -- one time is before another, for one connection

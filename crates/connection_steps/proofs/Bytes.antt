@@ -1,5 +1,5 @@
 -- Steps that move no byte, and bytes that are told or not.
-use Rattle.std.proofs.Common.{ℕ, Bool, true, false, List, [], ◌++◌, refl, sym, ap, ◌∙◌, subst}
+use Rattle.std.proofs.Common.{ℕ, Bool, true, false, List, [], ◌++◌, refl, sym, ap, ◌∙◌, subst, arith}
 use Rattle.xp_base.specs.Told.{told_append}
 use Rattle.link_bay.specs.Connections.{ConnectionRecord, fresh_connection}
 use Rattle.packet_frames.specs.Stream.{read_on}
@@ -21,6 +21,7 @@ waiting_keeps tells desk were_opened k r r' c same kept = record {
   listens = kept.listens;
   client = kept.client;
   marks = kept.marks;
+  unseen = kept.unseen;
 }
 
 -- the bytes given, with more of them
@@ -55,6 +56,7 @@ accepted_kept tells desk were_opened k = record {
   };
   client = refl;
   marks = tt;
+  unseen = λ wid n unopened low shown. absurd (omega (arith, low));
 }
   where
     told : (tells : Bool) → IsToldAs tells (fresh_connection tells) [] [] []

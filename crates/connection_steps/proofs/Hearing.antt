@@ -88,6 +88,7 @@ module _ (listens : HearingListens) (tells_all : HearingTells) (acting : ActingM
     listens = listens desk k now kept.given bytes c c' ignored kept.listens hears;
     client = told_now;
     marks = go c'.client refl told_now;
+    unseen = kept.unseen;
   }
     where
       told_now : IsToldTo desk were_opened k c'.client kept.sent

@@ -1,3 +1,5 @@
 pub mod Bytes
 pub mod Hearing
 pub mod Sending
+pub mod Greeting
+pub mod Changing

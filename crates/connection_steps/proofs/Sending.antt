@@ -1,12 +1,14 @@
 -- A write on a connection.
-use Rattle.std.proofs.Common.{◌≡◌, ℕ, ◌≤◌, Bool, true, false, Some, None, List, [], ◌++◌, length, take, refl, sym, ap, ◌∙◌, subst, arith}
+use Rattle.std.proofs.Common.{◌≡◌, ℕ, ◌+◌, ◌-◌, ◌<◌, ◌≤◌, ◌⊎◌, inl, inr, Bool, true, false, Some, None, List, [], ◌++◌, length, take, refl, sym, ap, ◌∙◌, subst, arith}
 use Rattle.std.specs.Prelude.{Option, replicate}
-use Rattle.std.proofs.lemmas.List.{append-nil, length-append, length-take, length-replicate, take-take}
+use Rattle.std.proofs.lemmas.Bool.{cases_lt}
+use Rattle.std.proofs.lemmas.List.{append-nil, length-append, length-take, length-replicate, take-take, take-append-le}
+use Rattle.std.proofs.Math.Seq.{take-append-add}
 use Rattle.xp_base.specs.Told.{told_append, told_length}
 use Rattle.link_bay.specs.Connections.{ConnectionRecord}
 use Rattle.link_bay.specs.Answers.{WriteGives}
 use Rattle.link_bay.specs.declared.bay.Wrote.TheVariants as W
-use Rattle.window_model.specs.Desktop.{Window, IsDesktop}
+use Rattle.window_model.specs.Desktop.{Window, IsDesktop, has_window}
 use Rattle.window_source.specs.Source.{SourceSeen}
 use Rattle.client_outbox.specs.Sending.{rest_of, piece_of}
 use Rattle.client_outbox.specs.declared.out.Out.TheVariants as O
@@ -15,16 +17,20 @@ use Rattle.std.specs.Option.{option_map}
 use Rattle.client_talk.specs.Kept.{IsListening, IsMarked}
 use Rattle.client_delivery.specs.Attached.{find_source}
 use Rattle.client_delivery.specs.Delivered.{IsTold}
-use Rattle.client_delivery.specs.Keeping.{WriteKeeps}
-use Rattle.client_delivery.specs.Owed.{OwesWhatDiffers}
+use Rattle.client_delivery.specs.Attached.{AttachedSeen}
+use Rattle.client_delivery.specs.Keeping.{WriteKeeps, ToldShowsOpened}
+use Rattle.client_delivery.specs.Owed.{shows, OwesWhatDiffers}
 use Rattle.client_delivery.specs.Owing.{ToldOwesWhatDiffers}
 use Rattle.client_delivery.specs.Steps.{writes}
 use Rattle.attached_client.specs.Client.{ClientSeen}
 use Rattle.open_connection.specs.Connection.{ConnectionSeen, caps_of}
 use Rattle.open_connection.specs.Laws.{IsToldTo}
-use Rattle.connection_steps.specs.Kept.{IsToldAs, AreMarked, IsConnection}
+use Rattle.connection_steps.specs.Kept.{IsToldAs, AreMarked, IsUnseen, IsConnection}
 use Rattle.connection_steps.specs.Laws.{SameBytes, SendingKeeps, KeptOwesWhatDiffers}
 use Rattle.connection_steps.proofs.Bytes.{waiting_keeps, tells_sent}
+
+true_is_not_false : true ≡ false → ⊥
+true_is_not_false same = cc same
 
 nothing_more : {A : Type 0} (o : Option (List A)) → told_append o [] ≡ o
 nothing_more None = refl
@@ -40,10 +46,30 @@ sent_told true r r' sent given heard bytes n now same later told = (
 )
 sent_told false r r' sent given heard bytes n now same later told = (now ∙ ap (λ o. told_append o bytes) told.0, same ∙ told.1, later ∙ ap (λ o. told_append o (replicate n (told_length r.given))) told.2)
 
-module _ (write_keeps : WriteKeeps) (sends_so : MarkSends) where
+module _ (write_keeps : WriteKeeps) (sends_so : MarkSends) (opened_alone : ToldShowsOpened) where
   -- the client with its packets as they are now
   same_client : (c c' : ConnectionSeen) (client client' : ClientSeen) → c.client ≡ Some client → c' ≡ record c { client = Some client' } → client' ≡ client → c' ≡ c
   same_client c c' client client' before after same = after ∙ ap (λ (a : ClientSeen). record c { client = Some a }) same ∙ ap (λ (o : Option ClientSeen). record c { client = o }) (sym before)
+
+  -- no byte more shows what was not opened: at each of them the client is told of the desktop
+  still_unseen : (desk : List Window) (were_opened : ℕ → Bool) (n : ℕ) (a : AttachedSeen) (sent : List ℕ) → IsDesktop desk → n ≤ length (rest_of a.out.packets a.out.taken) → IsTold desk were_opened a sent
+      → IsUnseen were_opened sent → IsUnseen were_opened (sent ++ take n (rest_of a.out.packets a.out.taken))
+  still_unseen desk were_opened n a sent desktop within told unseen wid place unopened low shown = go (cases_lt place (length sent))
+    where
+      rest : List ℕ
+      rest = rest_of a.out.packets a.out.taken
+
+      go : ((place < length sent) ⊎ (length sent ≤ place)) → ⊥
+      go (inl before) = unseen wid place unopened before (subst (λ (b : List ℕ). has_window (shows b) wid ≡ true) (take-append-le (place + 1) sent (take n rest) (omega (arith, before))) shown)
+      go (inr behind) =
+          let j : ℕ = place + 1 - length sent in
+          let all = length-append sent (take n rest) in
+          let some = length-take n rest in
+          let few : j ≤ n = omega (arith, low, all, some, behind) in
+          let front : take (place + 1) (sent ++ take n rest) ≡ sent ++ take j rest = ap (λ m. take m (sent ++ take n rest)) (let same : place + 1 ≡ length sent + j = omega (arith, behind) in same) ∙ take-append-add sent (take n rest) j ∙ ap (λ (b : List ℕ). sent ++ b) (take-take j n rest few) in
+          let there = write_keeps desk were_opened j a sent (omega (arith, few, within)) desktop told in
+          let none = opened_alone desk were_opened (writes j a) (sent ++ take j rest) wid there unopened in
+          true_is_not_false (sym shown ∙ ap (λ (b : List ℕ). has_window (shows b) wid) front ∙ none)
 
   took : (tells : Bool) (desk : List Window) (were_opened : ℕ → Bool) (k max n : ℕ) (r r' : ConnectionRecord) (c : ConnectionSeen) (client : ClientSeen) → IsDesktop desk → c.client ≡ Some client
       → WriteGives r r' (piece_of max client.seen.out) (W.Took n) → IsConnection tells desk were_opened k r c
@@ -57,6 +83,7 @@ module _ (write_keeps : WriteKeeps) (sends_so : MarkSends) where
     listens = subst (λ (o : Option ClientSeen). IsListening kept.given c.framing (option_map caps_of o)) before kept.listens;
     client = (told.0, subst (λ (b : List ℕ). IsTold desk were_opened (writes n client.seen) (kept.sent ++ b)) (sym front) (write_keeps desk were_opened n client.seen kept.sent within desktop told.1));
     marks = λ wid s found. subst (λ m. IsMarked wid s.mapped (kept.sent ++ bytes) kept.given (kept.heard ++ replicate m (length kept.given))) many (sends_so wid s.mapped kept.sent kept.given kept.heard bytes kept.for_each (marks wid s found));
+    unseen = subst (λ (b : List ℕ). IsUnseen were_opened (kept.sent ++ b)) (sym front) (still_unseen desk were_opened n client.seen kept.sent desktop within told.1 kept.unseen);
   }
     where
       piece : List ℕ

@@ -6,11 +6,21 @@ ghost use Rattle.connection_steps.specs.Laws.{
   HearingEndsIt,
   SendingKeeps,
   KeptOwesWhatDiffers,
+  StandingIsGreeted,
+  ReadingGreets,
+  ReadingKeepsCaps,
+  RefusedGetsGoodbye,
+  ChangingKeeps,
 };
 
 use attached_client::{Attached, messages_mark_and_owe_so};
-use client_delivery::{each_differing_pixel_is_owed, each_write_keeps_what_is_told};
-use client_talk::{marks_follow_the_talk, marks_stay_true};
+use client_delivery::{
+    each_differing_pixel_is_owed, each_write_keeps_what_is_told, only_opened_windows_are_shown,
+};
+use client_talk::{
+    a_client_is_greeted_by_its_bytes, a_greeted_client_stays_so, marks_follow_the_talk,
+    marks_stay_true,
+};
 use open_connection::{hearing_keeps_what_is_told, what_is_heard_is_what_was_given};
 use std::marker::Model;
 
@@ -52,11 +62,38 @@ pub fn what_ends_a_talk_was_given()
     what_is_heard_is_what_was_given();
 }
 
+/// A client's hello is in the bytes given: of one that stood before, and of one that a read attached, whatever else it said;
+/// and whatever an attached client says it keeps its capabilities.
+pub fn an_attached_client_has_greeted()
+    ensures stands { StandingIsGreeted }
+    ensures read { ReadingGreets }
+    ensures keeps { ReadingKeepsCaps }
+{
+    a_client_is_greeted_by_its_bytes::<Plain>();
+    a_greeted_client_stays_so::<Plain>();
+}
+
+/// A refused client was sent the front of its goodbye, and said what it is refused for.
+pub fn a_refused_client_gets_its_goodbye()
+    ensures { RefusedGetsGoodbye }
+{
+    what_is_heard_is_what_was_given();
+    a_greeted_client_stays_so::<Plain>();
+}
+
+/// What a paint line brings, where the client is then told of the desktop after it.
+pub fn a_change_keeps_a_connection()
+    ensures { ChangingKeeps }
+{
+    marks_stay_true();
+}
+
 /// A write, whatever it takes.
 pub fn a_write_keeps_a_connection()
     ensures { SendingKeeps }
 {
     each_write_keeps_what_is_told();
+    only_opened_windows_are_shown();
     marks_stay_true();
 }
 

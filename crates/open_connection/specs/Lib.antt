@@ -1,3 +1,4 @@
 pub mod Connection
 pub mod Reading
 pub mod Laws
+pub mod Sending

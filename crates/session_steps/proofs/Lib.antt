@@ -1,0 +1,6 @@
+pub mod Places
+pub mod Staying
+pub mod Coming
+pub mod Heard
+pub mod Written
+pub mod LinesPainted

@@ -1,0 +1,7 @@
+pub mod Seen
+pub mod Slots
+pub mod Accepting
+pub mod Reading
+pub mod Sending
+pub mod Steady
+pub mod Laws
