@@ -1,12 +1,18 @@
 // A connection that is open.
-ghost use Rattle.std.specs.Prelude.{◌≡◌};
+ghost use Rattle.std.specs.Prelude.{◌≡◌, ◌<◌, ◌≤◌, option_copied};
 ghost use Rattle.attached_client.specs.Acting.{acts};
-ghost use Rattle.open_connection.specs.Connection.{fresh};
+ghost use Rattle.link_bay.specs.Connections.{OthersStay};
+ghost use Rattle.open_connection.specs.Connection.{fresh, connection_in, caps_in};
 ghost use Rattle.open_connection.specs.Reading.{HearGives};
+ghost use Rattle.open_connection.specs.Sending.{ConnectionSends};
 
+use crate::client::send;
 use crate::heard::Heard;
 use crate::step::{Surroundings, hear_packets};
 use attached_client::Attached;
+use client_outbox::Out;
+use hello_caps::Caps;
+use link_bay::Bay;
 use packet_frames::Framer;
 use std::alloc::Global;
 use std::marker::Model;
@@ -25,19 +31,17 @@ pub struct Connection {
 }
 
 impl Model for Connection {
-    ghost use Rattle.std.specs.Option.{option_map};
-    ghost use Rattle.attached_client.specs.Client.{client_in};
-    ghost use Rattle.open_connection.specs.Connection.{ConnectionSeen};
+    ghost use Rattle.open_connection.specs.Connection.{OpenSeen};
 
-    ghost Value = { ConnectionSeen };
+    ghost Value = { OpenSeen };
 
-    ghost view = { λ c. record { framing = c.framer; client = option_map client_in c.client } };
+    ghost view = { λ c. record { framing = c.framer; client = c.client } };
 }
 
 impl Connection {
     /// One that was just accepted.
     pub fn new(alloc: Global) -> Connection
-        ensures { result ≡ fresh }
+        ensures { connection_in result ≡ fresh }
     {
         Connection {
             framer: Framer::new(alloc, SERVER_LIMIT),
@@ -48,7 +52,7 @@ impl Connection {
     /// Handles the packets that become whole with this piece of its bytes, beside this desktop and at this moment, in
     /// milliseconds. The first is read as its hello.
     pub fn hear(&mut self, alloc: Global, conn: Conn, piece: &[u8], desk: &Desk, now: u64) -> Heard
-        ensures { HearGives (acts desk.now conn.0 now) self.old piece.now result self.new }
+        ensures { HearGives (acts desk.now conn.0 now) (connection_in self.old) piece.now result (connection_in self.new) }
     {
         if self.framer.feed(piece).is_err() {
             return Heard::NoMemory(0);
@@ -60,5 +64,26 @@ impl Connection {
             moment: now,
         };
         hear_packets(&mut self.framer, &mut self.client, &beside)
+    }
+
+    /// What its client's hello said, where it was accepted.
+    pub fn caps(&self) -> Option<&Caps>
+        ensures { option_copied result ≡ caps_in (connection_in self.now) }
+    {
+        match &self.client {
+            Some(client) => Some(client.caps()),
+            None => None,
+        }
+    }
+
+    /// Writes once to its client: at most `max` bytes, of what is left of the first packet that waits.
+    pub fn send<B: Bay>(&mut self, bay: &mut B, c: Conn, max: u32) -> Out
+        requires known { c.0 < (B.provider bay.old).count }
+        requires some { 1 ≤ max }
+        ensures answer { ConnectionSends (B.connection bay.old c.0) (B.connection bay.new c.0) (connection_in self.old) max result (connection_in self.new) }
+        ensures others { OthersStay (B.connection bay.old) (B.connection bay.new) c.0 }
+        ensures provider { B.provider bay.new ≡ B.provider bay.old }
+    {
+        send(&mut self.client, bay, c, max)
     }
 }

@@ -1,6 +1,7 @@
 //! A connection that is open: what of its bytes is no whole packet yet and, once its hello was accepted, its client.
 #![tactic(auto)]
 
+mod client;
 mod connection;
 mod heard;
 mod laws;

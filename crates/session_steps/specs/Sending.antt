@@ -4,7 +4,8 @@ use Rattle.xp_base.specs.declared.numbers.Conn.{Conn}
 use Rattle.link_bay.specs.Connections.{OthersStay}
 use Rattle.client_outbox.specs.declared.out.Out.{Out}
 use Rattle.client_outbox.specs.declared.out.Out.TheVariants as O
-use Rattle.connection_table.specs.Tables.{Open, Ended, open_at}
+use Rattle.connection_table.specs.Tables.{Slot, Open, Ended, open_at}
+use Rattle.connection_ends.specs.declared.end.End.{End}
 use Rattle.connection_ends.specs.declared.end.End.TheVariants as E
 use Rattle.open_connection.specs.Connection.{ConnectionSeen}
 use Rattle.open_connection.specs.Sending.{ConnectionSends}
@@ -13,13 +14,25 @@ use Rattle.session_steps.specs.declared.answers.Sent.TheVariants as S
 use Rattle.session_steps.specs.Seen.{Known, Seen}
 use Rattle.session_steps.specs.Reading.{puts}
 
--- what a write comes to: the connection goes on so, or ends with a fault
+-- what is answered
+abbrev pub sent_of : Out → Sent
+sent_of (O.Took n) = S.Took n
+sent_of O.Idle = S.Idle
+sent_of O.Again = S.Again
+sent_of O.Failed = S.Ended E.LinkFault
+sent_of O.NoMemory = S.NoMemory
+
+-- the connection goes on so, or has ended where its write failed
+abbrev pub slot_after : ConnectionSeen → Out → Slot ConnectionSeen End
+slot_after after (O.Took n) = Open after
+slot_after after O.Idle = Open after
+slot_after after O.Again = Open after
+slot_after after O.Failed = Ended E.LinkFault
+slot_after after O.NoMemory = Open after
+
+-- what a write comes to
 abbrev pub OutGives : {B : Type 0} → Conn → ConnectionSeen → Seen B → Out → Sent → Seen B → Type 0
-OutGives c after old (O.Took n) answer new = (answer ≡ S.Took n) × (new ≡ puts c (Open after) old new.bay)
-OutGives c after old O.Idle answer new = (answer ≡ S.Idle) × (new ≡ puts c (Open after) old new.bay)
-OutGives c after old O.Again answer new = (answer ≡ S.Again) × (new ≡ puts c (Open after) old new.bay)
-OutGives c after old O.Failed answer new = (answer ≡ S.Ended E.LinkFault) × (new ≡ puts c (Ended E.LinkFault) old new.bay)
-OutGives c after old O.NoMemory answer new = (answer ≡ S.NoMemory) × (new ≡ puts c (Open after) old new.bay)
+OutGives c after old out answer new = (answer ≡ sent_of out) × (new ≡ puts c (slot_after after out) old new.bay)
 
 -- one write to an open connection
 pub record Writes {B : Type 0} (known : Known B) (c : Conn) (max : ℕ) (connection : ConnectionSeen) (old : Seen B) (answer : Sent) (new : Seen B) : Type 0 where

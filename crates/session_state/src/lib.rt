@@ -1,0 +1,10 @@
+//! What a session keeps, and its steps in code: each is exactly the step that `session_steps` says.
+#![tactic(auto)]
+
+mod accept;
+mod receive;
+mod send;
+mod state;
+mod take_over;
+
+pub use state::State;
