@@ -1,3 +1,5 @@
 pub mod Connection
 pub mod Reading
+pub mod Changing
+pub mod Sending
 pub mod Laws

@@ -1,17 +1,23 @@
 // A connection that is open.
-ghost use Rattle.std.specs.Prelude.{◌≡◌};
+ghost use Rattle.std.specs.Prelude.{◌≡◌, ◌<◌, ◌≤◌, IfOk};
 ghost use Rattle.attached_client.specs.Acting.{acts};
-ghost use Rattle.open_connection.specs.Connection.{fresh};
+ghost use Rattle.link_bay.specs.Connections.{OthersStay};
+ghost use Rattle.open_connection.specs.Connection.{fresh, connection_in};
 ghost use Rattle.open_connection.specs.Reading.{HearGives};
+ghost use Rattle.open_connection.specs.Changing.{FitsIn, IsPreparedIn, ConnectionChanges};
+ghost use Rattle.open_connection.specs.Sending.{ConnectionSends};
 
+use crate::client::{carry_out, preparing, send};
 use crate::heard::Heard;
 use crate::step::{Surroundings, hear_packets};
-use attached_client::Attached;
+use attached_client::{Attached, Change, Prepared};
+use client_outbox::Out;
+use link_bay::Bay;
 use packet_frames::Framer;
 use std::alloc::Global;
 use std::marker::Model;
 use window_model::Desk;
-use xp_base::Conn;
+use xp_base::{Conn, NoMemory};
 
 /// The greatest payload or chunk that a client may send, in bytes.
 const SERVER_LIMIT: u32 = 1_048_576;
@@ -25,19 +31,17 @@ pub struct Connection {
 }
 
 impl Model for Connection {
-    ghost use Rattle.std.specs.Option.{option_map};
-    ghost use Rattle.attached_client.specs.Client.{client_in};
-    ghost use Rattle.open_connection.specs.Connection.{ConnectionSeen};
+    ghost use Rattle.open_connection.specs.Connection.{OpenSeen};
 
-    ghost Value = { ConnectionSeen };
+    ghost Value = { OpenSeen };
 
-    ghost view = { λ c. record { framing = c.framer; client = option_map client_in c.client } };
+    ghost view = { λ c. record { framing = c.framer; client = c.client } };
 }
 
 impl Connection {
     /// One that was just accepted.
     pub fn new(alloc: Global) -> Connection
-        ensures { result ≡ fresh }
+        ensures { connection_in result ≡ fresh }
     {
         Connection {
             framer: Framer::new(alloc, SERVER_LIMIT),
@@ -48,7 +52,7 @@ impl Connection {
     /// Handles the packets that become whole with this piece of its bytes, beside this desktop and at this moment, in
     /// milliseconds. The first is read as its hello.
     pub fn hear(&mut self, alloc: Global, conn: Conn, piece: &[u8], desk: &Desk, now: u64) -> Heard
-        ensures { HearGives (acts desk.now conn.0 now) self.old piece.now result self.new }
+        ensures { HearGives (acts desk.now conn.0 now) (connection_in self.old) piece.now result (connection_in self.new) }
     {
         if self.framer.feed(piece).is_err() {
             return Heard::NoMemory(0);
@@ -60,5 +64,33 @@ impl Connection {
             moment: now,
         };
         hear_packets(&mut self.framer, &mut self.client, &beside)
+    }
+
+    /// Makes what a change at this moment, in milliseconds, needs of its client; `None` where no hello was accepted yet.
+    pub fn preparing(&mut self, change: Change, now: u64) -> Result<Option<Prepared>, NoMemory>
+        requires { FitsIn change self.old.client }
+        ensures same { connection_in self.new ≡ connection_in self.old }
+        ensures ready { IfOk result (IsPreparedIn change now self.new.client) }
+    {
+        preparing(&mut self.client, change, now)
+    }
+
+    /// Carries out a change at the moment for which it was prepared. It takes no memory.
+    pub fn carry_out(&mut self, change: Change, now: u64, prepared: Option<Prepared>)
+        requires { IsPreparedIn change now self.old.client prepared }
+        ensures { ConnectionChanges change now (connection_in self.old) (connection_in self.new) }
+    {
+        carry_out(&mut self.client, change, now, prepared);
+    }
+
+    /// Writes once to its client: at most `max` bytes, of what is left of the first packet that waits.
+    pub fn send<B: Bay>(&mut self, bay: &mut B, c: Conn, max: u32) -> Out
+        requires known { c.0 < (B.provider bay.old).count }
+        requires some { 1 ≤ max }
+        ensures answer { ConnectionSends (B.connection bay.old c.0) (B.connection bay.new c.0) (connection_in self.old) max result (connection_in self.new) }
+        ensures others { OthersStay (B.connection bay.old) (B.connection bay.new) c.0 }
+        ensures provider { B.provider bay.new ≡ B.provider bay.old }
+    {
+        send(&mut self.client, bay, c, max)
     }
 }

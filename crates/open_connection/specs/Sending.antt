@@ -1,0 +1,20 @@
+-- A write to a connection.
+use Rattle.std.specs.Prelude.{ℕ, ◌≡◌, Option, Some, None}
+use Rattle.link_bay.specs.Connections.{ConnectionRecord}
+use Rattle.client_outbox.specs.declared.out.Out.{Out}
+use Rattle.client_outbox.specs.declared.out.Out.TheVariants as O
+use Rattle.attached_client.specs.Client.{ClientSeen}
+use Rattle.attached_client.specs.Sending.{ClientSends}
+use Rattle.open_connection.specs.Connection.{ConnectionSeen}
+
+-- to its client; nothing waits where no hello was accepted yet
+abbrev pub SendsTo : ConnectionRecord → ConnectionRecord → Option ClientSeen → ℕ → Out → Option ClientSeen → Type 0
+SendsTo line line' None max out None = (out ≡ O.Idle) × (line' ≡ line)
+SendsTo line line' None max out (Some c) = ⊥
+SendsTo line line' (Some c) max out None = ⊥
+SendsTo line line' (Some c) max out (Some c') = ClientSends line line' c max out c'
+
+-- what the provider knows of the connection, and the connection, before and after
+pub record ConnectionSends (line line' : ConnectionRecord) (c : ConnectionSeen) (max : ℕ) (out : Out) (c' : ConnectionSeen) : Type 0 where
+  pub framing : c'.framing ≡ c.framing
+  pub client : SendsTo line line' c.client max out c'.client
