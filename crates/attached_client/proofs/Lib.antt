@@ -7,3 +7,8 @@ pub mod Does
 pub mod Damages
 pub mod Begun
 pub mod Pixels
+pub mod CarriedOut
+pub mod Changing
+pub mod ChangeMarking
+pub mod ChangeOwing
+pub mod Examples

@@ -16,7 +16,6 @@ use Rattle.packet_kinds.specs.Written.{message_bytes, IsMessage}
 use Rattle.window_source.specs.Waiting.{Waiting, Carries, client_limit}
 use Rattle.client_delivery.specs.Steps.{structure, announces}
 use Rattle.attached_client.specs.Client.{plain_packet, announced_at}
-use Rattle.attached_client.specs.Painting.{OpensSo}
 
 -- what is read is what was written, what may be written, and what is small: the laws of messages
 pub record Writes : Type 0 where
@@ -50,6 +49,3 @@ module _ (writes : Writes) where
 
   pub announcement_carries : (w : Window) → IsWindow w → Carries (structure (plain_packet (announces w)) (announces w))
   announcement_carries w is = geometry_carries (geometry_of w) (record { first = is.first; last = is.last; across = is.across; down = is.down; wide = is.wide; high = is.high })
-
-  pub opens_so : OpensSo
-  opens_so g now c is = record { sources = refl; put = record { packet = announced_at g; carries = geometry_carries g is; put = refl } }

@@ -5,7 +5,7 @@ use Rattle.std.specs.List.{position_or_len}
 use Rattle.std.proofs.Math.Path.{fun_ext}
 use Rattle.std.proofs.lemmas.Bool.Decides.{nat_tests}
 use Rattle.std.proofs.lemmas.Option.{slice_get-get_or}
-use Rattle.xp_base.specs.Keyed.{HasDistinctKeys, keyed_change}
+use Rattle.xp_base.specs.Keyed.{HasDistinctKeys, keyed_change, keyed_remove}
 use Rattle.xp_base.specs.KeyedLaws.{KeyedPlaces, KeyedKeeps}
 use Rattle.delivery_model.specs.Window.{Window}
 use Rattle.ack_tracker.specs.Unacknowledged.{rect_at}
@@ -29,6 +29,16 @@ nothing_changes [] k f none = refl
 nothing_changes (s ∷ sources) k f none = go (eqb s.wid k) none (nothing_changes sources k f)
   where
     go : (b : Bool) → cond b (Some s) (find_source sources k) ≡ None → (find_source sources k ≡ None → keyed_change source_key sources k f ≡ sources) → cond b (f s) s ∷ keyed_change source_key sources k f ≡ s ∷ sources
+    go true none later = absurd (cc none)
+    go false none later = ap (λ (l : List SourceSeen). s ∷ l) (later none)
+
+-- and nothing is taken away
+pub nothing_removed : (sources : List SourceSeen) (k : ℕ) → find_source sources k ≡ None → keyed_remove source_key sources k ≡ sources
+nothing_removed [] k none = refl
+nothing_removed (s ∷ sources) k none = go (eqb s.wid k) none (nothing_removed sources k)
+  where
+    go : (b : Bool) → cond b (Some s) (find_source sources k) ≡ None → (find_source sources k ≡ None → keyed_remove source_key sources k ≡ sources)
+        → cond (not b) (s ∷ keyed_remove source_key sources k) (keyed_remove source_key sources k) ≡ s ∷ sources
     go true none later = absurd (cc none)
     go false none later = ap (λ (l : List SourceSeen). s ∷ l) (later none)
 

@@ -1,5 +1,7 @@
 pub mod Client
 pub mod Acting
-pub mod Painting
+pub mod Changes
+pub mod Desktops
 pub mod Sending
 pub mod Laws
+pub mod ChangeLaws

@@ -1,6 +1,8 @@
 // A client whose hello was accepted.
 ghost use Rattle.std.specs.Prelude.{◌≡◌, ◌<◌, IfOk, IfSome, OnOk, OnErr, length};
+ghost use Rattle.xp_base.specs.Keyed.{HasDistinctKeys, keyed_remove};
 ghost use Rattle.client_outbox.specs.Outgoing.{with_packet};
+ghost use Rattle.client_delivery.specs.Attached.{source_key};
 ghost use Rattle.attached_client.specs.Client.{attached_at};
 ghost use Rattle.attached_client.specs.Acting.{place_with, place_named};
 
@@ -12,7 +14,7 @@ use std::alloc::Global;
 use std::marker::Model;
 use window_model::{Desk, Geometry};
 use window_source::WindowSource;
-use xp_base::{Conn, NoMemory, Wid};
+use xp_base::{Conn, NoMemory, Wid, keyed_places};
 
 /// What a session keeps of a client whose hello was accepted.
 #[derive(Drop)]
@@ -87,6 +89,27 @@ pub(crate) fn put(out: &mut Outbox<Region>, packet: Packet<Region>) -> Result<()
     match out.put(packet) {
         Ok(()) => Ok(()),
         Err(_) => Err(NoMemory),
+    }
+}
+
+/// Puts a packet behind all others, for which there is room.
+pub(crate) fn put_reserved(out: &mut Outbox<Region>, packet: Packet<Region>)
+    requires { 0 < out.old.room }
+    ensures { out.new.waiting ≡ with_packet out.old.waiting packet }
+{
+    if out.put(packet).is_err() {
+        unreachable!();
+    }
+}
+
+/// Takes the source of the window away, where there is one.
+pub(crate) fn remove_source(sources: &mut Vec<WindowSource<Region>>, wid: Wid)
+    requires { HasDistinctKeys source_key sources.old.items }
+    ensures { sources.new.items ≡ keyed_remove source_key sources.old.items wid }
+{
+    keyed_places::<WindowSource<Region>>();
+    if let Some(place) = place_of_window(sources, wid) {
+        sources.remove(place);
     }
 }
 

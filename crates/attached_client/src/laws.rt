@@ -1,6 +1,5 @@
 // What follows of a client's hello and of what it says. Each law makes the calls of the laws that it stands on.
 ghost use Rattle.attached_client.specs.Laws.{AttachesSo, ActingKeeps, ActingMarks, ActingOwes};
-ghost use Rattle.attached_client.specs.Painting.{OpensSo};
 
 use client_delivery::{
     each_delivery_changes_owed_so, each_paint_changes_owed_so,
@@ -43,15 +42,6 @@ pub fn messages_mark_and_owe_so()
     keyed_finds::<WindowSource<Region>>();
     each_delivery_changes_owed_so();
     each_paint_changes_owed_so();
-    what_is_written_is_read_as_the_same_message();
-    a_plain_message_may_be_written();
-    a_plain_message_has_a_small_value();
-}
-
-/// A client with what a new window brings to it is one for which the window was opened.
-pub fn an_opening_opens()
-    ensures { OpensSo }
-{
     what_is_written_is_read_as_the_same_message();
     a_plain_message_may_be_written();
     a_plain_message_has_a_small_value();

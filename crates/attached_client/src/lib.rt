@@ -2,14 +2,16 @@
 #![tactic(auto)]
 
 mod acting;
+mod carrying;
+mod change;
+mod change_laws;
 mod client;
 mod laws;
 mod packets;
-mod painting;
+mod preparing;
 mod sending;
 
+pub use change::{Change, Prepared};
+pub use change_laws::{a_change_changes_owed_so, a_change_keeps_a_client, a_change_keeps_marks};
 pub use client::Attached;
-pub use laws::{
-    a_new_client_attaches, acting_keeps_what_is_told, an_opening_opens, messages_mark_and_owe_so,
-};
-pub use painting::Opening;
+pub use laws::{a_new_client_attaches, acting_keeps_what_is_told, messages_mark_and_owe_so};

@@ -3,6 +3,7 @@ ghost use Rattle.std.specs.Prelude.{◌≡◌, ◌<◌, [], IfOk, vec_len};
 ghost use Rattle.packet_kinds.specs.Fields.{HasFields, IsPlain, drawn_size};
 ghost use Rattle.client_outbox.specs.Outgoing.{other_packet};
 ghost use Rattle.attached_client.specs.Client.{plain_packet, hello_packet, announced_at};
+ghost use Rattle.attached_client.specs.Changes.{lost_packet, moved_packet, raised_packet};
 
 use client_outbox::Packet;
 use hello_caps::{Caps, server_hello, the_server_spells};
@@ -14,7 +15,7 @@ use packet_kinds::{
 use rect_regions::{Points, Region, equal_by_points};
 use std::alloc::Global;
 use window_model::Geometry;
-use xp_base::NoMemory;
+use xp_base::{NoMemory, Wid};
 
 /// A packet that relieves nothing.
 fn bare_packet(alloc: Global, bytes: Vec<u8>) -> Packet<Region>
@@ -72,4 +73,37 @@ pub(crate) fn announcement(alloc: Global, g: Geometry) -> Result<Packet<Region>,
         h: g.h,
     };
     plain_packet_of(alloc, &message)
+}
+
+/// The packet that a window goes.
+pub(crate) fn lost_packet(alloc: Global, wid: Wid) -> Result<Packet<Region>, NoMemory>
+    ensures { IfOk result (λ p. p ≡ lost_packet wid) }
+{
+    // For the proof: the number is one of a window.
+    let _number = wid.get();
+    plain_packet_of(alloc, &ToClient::LostWindow { wid })
+}
+
+/// The packet that a window has another place.
+pub(crate) fn moved_packet(alloc: Global, g: Geometry) -> Result<Packet<Region>, NoMemory>
+    ensures { IfOk result (λ p. p ≡ moved_packet g) }
+{
+    let _area = g.area();
+    let message = ToClient::WindowMoveResize {
+        wid: g.wid,
+        x: g.x,
+        y: g.y,
+        w: g.w,
+        h: g.h,
+    };
+    plain_packet_of(alloc, &message)
+}
+
+/// The packet that a window is on top.
+pub(crate) fn raised_packet(alloc: Global, wid: Wid) -> Result<Packet<Region>, NoMemory>
+    ensures { IfOk result (λ p. p ≡ raised_packet wid) }
+{
+    // For the proof: the number is one of a window.
+    let _number = wid.get();
+    plain_packet_of(alloc, &ToClient::RaiseWindow { wid })
 }

@@ -1,3 +1,4 @@
 pub mod Hearings
 pub mod Keeping
 pub mod Packets
+pub mod Changing

@@ -1,4 +1,6 @@
 pub mod Connection
 pub mod Reading
+pub mod Changing
+pub mod Sending
 pub mod Laws
 pub mod Sending

@@ -1,14 +1,48 @@
 // The client of a connection, where its hello was accepted.
-ghost use Rattle.std.specs.Prelude.{◌≡◌, ◌<◌, ◌≤◌};
+ghost use Rattle.std.specs.Prelude.{◌≡◌, ◌<◌, ◌≤◌, IfOk};
 ghost use Rattle.std.specs.Option.{option_map};
 ghost use Rattle.link_bay.specs.Connections.{OthersStay};
 ghost use Rattle.attached_client.specs.Client.{client_in};
+ghost use Rattle.open_connection.specs.Changing.{FitsIn, IsPreparedIn, ChangesIn};
 ghost use Rattle.open_connection.specs.Sending.{SendsTo};
 
-use attached_client::Attached;
+use attached_client::{Attached, Change, Prepared};
 use client_outbox::Out;
 use link_bay::Bay;
-use xp_base::Conn;
+use xp_base::{Conn, NoMemory};
+
+/// What a change needs of the client, where there is one.
+pub(crate) fn preparing(
+    client: &mut Option<Attached>,
+    change: Change,
+    now: u64,
+) -> Result<Option<Prepared>, NoMemory>
+    requires { FitsIn change client.old }
+    ensures same { option_map client_in client.new ≡ option_map client_in client.old }
+    ensures ready { IfOk result (IsPreparedIn change now client.new) }
+{
+    match client {
+        Some(attached) => Ok(Some(attached.preparing(change, now)?)),
+        None => Ok(None),
+    }
+}
+
+/// Carries out what was made for it.
+pub(crate) fn carry_out(
+    client: &mut Option<Attached>,
+    change: Change,
+    now: u64,
+    prepared: Option<Prepared>,
+)
+    requires { IsPreparedIn change now client.old prepared }
+    ensures { ChangesIn change now (option_map client_in client.old) (option_map client_in client.new) }
+{
+    if let Some(attached) = client {
+        if let Some(prepared) = prepared {
+            attached.carry_out(change, now, prepared);
+        }
+    }
+}
 
 /// Writes once to the client, where there is one; else nothing waits.
 pub(crate) fn send<B: Bay>(client: &mut Option<Attached>, bay: &mut B, c: Conn, max: u32) -> Out

@@ -1,15 +1,16 @@
 // A connection that is open.
-ghost use Rattle.std.specs.Prelude.{◌≡◌, ◌<◌, ◌≤◌, option_copied};
+ghost use Rattle.std.specs.Prelude.{◌≡◌, ◌<◌, ◌≤◌, IfOk, option_copied};
 ghost use Rattle.attached_client.specs.Acting.{acts};
 ghost use Rattle.link_bay.specs.Connections.{OthersStay};
 ghost use Rattle.open_connection.specs.Connection.{fresh, connection_in, caps_in};
 ghost use Rattle.open_connection.specs.Reading.{HearGives};
+ghost use Rattle.open_connection.specs.Changing.{FitsIn, IsPreparedIn, ConnectionChanges};
 ghost use Rattle.open_connection.specs.Sending.{ConnectionSends};
 
-use crate::client::send;
+use crate::client::{carry_out, preparing, send};
 use crate::heard::Heard;
 use crate::step::{Surroundings, hear_packets};
-use attached_client::Attached;
+use attached_client::{Attached, Change, Prepared};
 use client_outbox::Out;
 use hello_caps::Caps;
 use link_bay::Bay;
@@ -17,7 +18,7 @@ use packet_frames::Framer;
 use std::alloc::Global;
 use std::marker::Model;
 use window_model::Desk;
-use xp_base::Conn;
+use xp_base::{Conn, NoMemory};
 
 /// The greatest payload or chunk that a client may send, in bytes.
 const SERVER_LIMIT: u32 = 1_048_576;
@@ -74,6 +75,23 @@ impl Connection {
             Some(client) => Some(client.caps()),
             None => None,
         }
+    }
+
+    /// Makes what a change at this moment, in milliseconds, needs of its client; `None` where no hello was accepted yet.
+    pub fn preparing(&mut self, change: Change, now: u64) -> Result<Option<Prepared>, NoMemory>
+        requires { FitsIn change self.old.client }
+        ensures same { connection_in self.new ≡ connection_in self.old }
+        ensures ready { IfOk result (IsPreparedIn change now self.new.client) }
+    {
+        preparing(&mut self.client, change, now)
+    }
+
+    /// Carries out a change at the moment for which it was prepared. It takes no memory.
+    pub fn carry_out(&mut self, change: Change, now: u64, prepared: Option<Prepared>)
+        requires { IsPreparedIn change now self.old.client prepared }
+        ensures { ConnectionChanges change now (connection_in self.old) (connection_in self.new) }
+    {
+        carry_out(&mut self.client, change, now, prepared);
     }
 
     /// Writes once to its client: at most `max` bytes, of what is left of the first packet that waits.

@@ -1,7 +1,9 @@
-// What is kept of a connection while its bytes are read. Each law makes the calls of the laws that it stands on.
-ghost use Rattle.open_connection.specs.Laws.{HearingListens, HearingEnds, HearingTells};
+// What is kept of a connection while its bytes are read and lines are painted. Each law makes the calls of the laws that it stands on.
+ghost use Rattle.open_connection.specs.Laws.{HearingListens, HearingEnds, HearingTells, ChangingTells, ChangingListens, ChangingFits};
 
-use attached_client::{Attached, a_new_client_attaches, acting_keeps_what_is_told};
+use attached_client::{
+    Attached, a_change_keeps_a_client, a_new_client_attaches, acting_keeps_what_is_told,
+};
 use client_delivery::a_client_that_attaches_is_told;
 use client_talk::{an_ending_has_its_cause, the_talk_goes_on};
 use std::marker::Model;
@@ -36,4 +38,14 @@ pub fn hearing_keeps_what_is_told()
     a_client_that_attaches_is_told();
     a_new_client_attaches();
     acting_keeps_what_is_told();
+}
+
+/// Whatever is painted, each window of the client stays the model's, and the packets handled those of the bytes given. What a
+/// paint line needs of the client is there.
+pub fn a_change_keeps_a_connection()
+    ensures told { ChangingTells }
+    ensures listens { ChangingListens }
+    ensures fits { ChangingFits }
+{
+    a_change_keeps_a_client();
 }

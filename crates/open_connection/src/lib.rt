@@ -9,4 +9,6 @@ mod step;
 
 pub use connection::Connection;
 pub use heard::Heard;
-pub use laws::{hearing_keeps_what_is_told, what_is_heard_is_what_was_given};
+pub use laws::{
+    a_change_keeps_a_connection, hearing_keeps_what_is_told, what_is_heard_is_what_was_given,
+};
