@@ -82,7 +82,7 @@ pub fn a_refused_client_gets_its_goodbye()
 }
 
 /// What a paint line brings, where the client is then told of the desktop after it.
-pub fn a_change_keeps_a_connection()
+pub fn a_paint_line_keeps_a_connection()
     ensures { ChangingKeeps }
 {
     marks_stay_true();

@@ -3,4 +3,3 @@ pub mod Reading
 pub mod Changing
 pub mod Sending
 pub mod Laws
-pub mod Sending

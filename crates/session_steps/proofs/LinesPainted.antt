@@ -1,70 +1,140 @@
 -- Paint lines, and what is owed.
-use Rattle.std.proofs.Common.{◌≡◌, ◌≢◌, ℕ, zero, suc, ◌+◌, ◌≤◌, Bool, true, false, Some, None, List, [], ◌∷◌, length, cond, refl, sym, ap, ◌∙◌, subst, arith}
+use Rattle.std.proofs.Common.{◌≡◌, ◌≢◌, ℕ, zero, suc, ◌+◌, ◌≤◌, ◌==◌, Bool, true, false, ◌⊎◌, inl, inr, Some, None, List, [], ◌∷◌, length, cond, eqb, refl, sym, ap, ◌∙◌, subst, arith}
 use Rattle.std.specs.Prelude.{Option, slice_get}
+use Rattle.std.proofs.lemmas.Bool.{eqb-true}
 use Rattle.link_bay.specs.Connections.{ConnectionRecord}
-use Rattle.window_model.specs.Desktop.{Window}
+use Rattle.window_model.specs.Desktop.{Window, IsDesktop}
+use Rattle.window_source.specs.Source.{SourceSeen}
+use Rattle.client_delivery.specs.Attached.{find_source}
+use Rattle.client_delivery.specs.Keeping.{HoldsDesk, FirstOpens}
 use Rattle.connection_table.specs.Tables.{Slot, Open, Away, Ended, is_open, open_at, open_count}
 use Rattle.connection_ends.specs.declared.end.End.{End}
+use Rattle.attached_client.specs.declared.change.Change.{Change}
+use Rattle.attached_client.specs.declared.change.Change.TheVariants as C
+use Rattle.attached_client.specs.Client.{ClientSeen}
+use Rattle.attached_client.specs.Laws.{mark_in, mark_on}
+use Rattle.attached_client.specs.ChangeLaws.{ChangeStays, ChangeMarks, begun_mark, changed_mark}
+use Rattle.attached_client.specs.Changes.{ClientChanges}
+use Rattle.attached_client.specs.Desktops.{DeskChanges, NumbersChange}
 use Rattle.open_connection.specs.Connection.{ConnectionSeen}
-use Rattle.connection_steps.specs.Laws.{OpensMore, ChangingKeeps, KeptOwesWhatDiffers}
+use Rattle.open_connection.specs.Changing.{ChangesIn, ConnectionChanges}
+use Rattle.open_connection.specs.Laws.{ChangingTells}
+use Rattle.connection_steps.specs.Laws.{OpensMore, MarksStay, ClientStays, ChangingKeeps, KeptOwesWhatDiffers}
 use Rattle.session_steps.specs.Slots.{Slots}
 use Rattle.session_steps.specs.Seen.{Known, Seen}
+use Rattle.session_steps.specs.Painting.{ChangesSlot, ChangesSlots, Paints}
 use Rattle.session_steps.specs.Steady.{IsSlot, AreSlots, IsSteady}
-use Rattle.session_steps.specs.Laws.{Changes, SlotsChange, PaintKeeps, SessionOwesWhatDiffers}
+use Rattle.session_steps.specs.Laws.{PaintKeeps, SessionOwesWhatDiffers}
 use Rattle.session_steps.proofs.Places.{open_slot}
 
-module _ (desk desk' : List Window) (was_opened is_opened : ℕ → Bool) where
-  -- as many, and as many open
-  same_open : (k : ℕ) (slot slot' : Slot ConnectionSeen End) → Changes desk desk' was_opened is_opened k slot slot' → is_open slot' ≡ is_open slot
-  same_open k (Open c) slot' is = ap is_open is.1
-  same_open k Away slot' is = ap is_open is
-  same_open k (Ended e) slot' is = ap is_open is
+-- numbers are only opened more
+opens_more : (change : Change) (was is : ℕ → Bool) → NumbersChange change was is → OpensMore was is
+opens_more (C.Opened g) was is numbers k none = numbers.more k none
+opens_more (C.Closed j) was is numbers k none = sym (numbers k) ∙ none
+opens_more (C.Moved g) was is numbers k none = sym (numbers k) ∙ none
+opens_more (C.Raised j) was is numbers k none = sym (numbers k) ∙ none
+opens_more (C.Damaged j r) was is numbers k none = sym (numbers k) ∙ none
 
-  pub as_many : (k : ℕ) (slots slots' : Slots) → SlotsChange desk desk' was_opened is_opened k slots slots' → (length slots' ≡ length slots) × (open_count slots' ≡ open_count slots)
-  as_many k [] [] is = (refl, refl)
-  as_many k [] (slot' ∷ slots') is = absurd is
-  as_many k (slot ∷ slots) [] is = absurd is
-  as_many k (slot ∷ slots) (slot' ∷ slots') is =
-      let rest = as_many (suc k) slots slots' is.1 in
-      let here = same_open k slot slot' is.0 in
+-- a mark is as it was, or begins
+abbrev MarkStays : (ℕ → Bool) → ℕ → ClientSeen → SourceSeen → Type 0
+MarkStays was wid c s' = ((s : SourceSeen) × (find_source c.seen.sources wid ≡ Some s) × (s'.mapped ≡ s.mapped)) ⊎ ((s'.mapped ≡ false) × (was wid ≡ false))
+
+same_mark : (was : ℕ → Bool) (wid : ℕ) (c : ClientSeen) (s' : SourceSeen) → Some s'.mapped ≡ mark_on wid c → MarkStays was wid c s'
+same_mark was wid c s' is = go (find_source c.seen.sources wid) refl is
+  where
+    go : (o : Option SourceSeen) → find_source c.seen.sources wid ≡ o → Some s'.mapped ≡ mark_in o → MarkStays was wid c s'
+    go None at is = absurd (cc is)
+    go (Some s) at is = inl (s, at, (let same : s'.mapped ≡ s.mapped = cc is in same))
+
+begun_stays : (was : ℕ → Bool) (wid : ℕ) (c : ClientSeen) (s' : SourceSeen) → was wid ≡ false → Some s'.mapped ≡ begun_mark (mark_on wid c) → MarkStays was wid c s'
+begun_stays was wid c s' fresh is = go (mark_on wid c) refl is
+  where
+    go : (o : Option Bool) → mark_on wid c ≡ o → Some s'.mapped ≡ begun_mark o → MarkStays was wid c s'
+    go None at is = inr ((let same : s'.mapped ≡ false = cc is in same), fresh)
+    go (Some mark) at is = same_mark was wid c s' (is ∙ sym at)
+
+mark_stays : (change : Change) (was is : ℕ → Bool) (wid : ℕ) (c : ClientSeen) (s' : SourceSeen) → NumbersChange change was is → Some s'.mapped ≡ changed_mark change wid (mark_on wid c) → MarkStays was wid c s'
+mark_stays (C.Opened g) was is wid c s' numbers mark = go (wid == g.wid) refl mark
+  where
+    go : (b : Bool) → (wid == g.wid) ≡ b → Some s'.mapped ≡ cond b (begun_mark (mark_on wid c)) (mark_on wid c) → MarkStays was wid c s'
+    go true here mark = begun_stays was wid c s' (ap was (eqb-true wid g.wid here) ∙ numbers.before) mark
+    go false there mark = same_mark was wid c s' mark
+mark_stays (C.Closed j) was is wid c s' numbers mark = go (wid == j) mark
+  where
+    go : (b : Bool) → Some s'.mapped ≡ cond b None (mark_on wid c) → MarkStays was wid c s'
+    go true mark = absurd (cc mark)
+    go false mark = same_mark was wid c s' mark
+mark_stays (C.Moved g) was is wid c s' numbers mark = same_mark was wid c s' mark
+mark_stays (C.Raised j) was is wid c s' numbers mark = same_mark was wid c s' mark
+mark_stays (C.Damaged j r) was is wid c s' numbers mark = same_mark was wid c s' mark
+
+-- a client stays what it was
+client_stays : ChangeStays → ChangeMarks → (change : Change) (now : ℕ) (was is : ℕ → Bool) (o o' : Option ClientSeen) → NumbersChange change was is → ChangesIn change now o o' → ClientStays was o o'
+client_stays stays marks change now was is None None numbers changes = tt
+client_stays stays marks change now was is None (Some c') numbers changes = absurd changes
+client_stays stays marks change now was is (Some c) None numbers changes = absurd changes
+client_stays stays marks change now was is (Some c) (Some c') numbers changes =
+    let same = stays change now c c' changes in
+    (same.caps, λ wid s' found. mark_stays change was is wid c s' numbers (sym (ap mark_in found) ∙ marks change now c c' wid changes))
+
+module _ (change : Change) (now : ℕ) where
+  -- as many, and as many open
+  same_open : (slot slot' : Slot ConnectionSeen End) → ChangesSlot change now slot slot' → is_open slot' ≡ is_open slot
+  same_open (Open c) slot' is = ap is_open is.1
+  same_open Away slot' is = ap is_open is
+  same_open (Ended e) slot' is = ap is_open is
+
+  pub as_many : (slots slots' : Slots) → ChangesSlots change now slots slots' → (length slots' ≡ length slots) × (open_count slots' ≡ open_count slots)
+  as_many [] [] is = (refl, refl)
+  as_many [] (slot' ∷ slots') is = absurd is
+  as_many (slot ∷ slots) [] is = absurd is
+  as_many (slot ∷ slots) (slot' ∷ slots') is =
+      let rest = as_many slots slots' is.1 in
+      let here = same_open slot slot' is.0 in
       (ap suc rest.0, ap (λ b. cond b 1 0 + open_count slots') here ∙ ap (λ n. cond (is_open slot) 1 0 + n) rest.1)
 
   -- each place changed so
-  pub change_at : (k : ℕ) (slots slots' : Slots) → SlotsChange desk desk' was_opened is_opened k slots slots' → (j : ℕ) (slot' : Slot ConnectionSeen End) → slice_get slots' j ≡ Some slot'
-      → (slot : Slot ConnectionSeen End) × (slice_get slots j ≡ Some slot) × Changes desk desk' was_opened is_opened (k + j) slot slot'
-  change_at k [] [] is j slot' found = absurd (cc found)
-  change_at k [] (s' ∷ slots') is j slot' found = absurd is
-  change_at k (s ∷ slots) [] is j slot' found = absurd is
-  change_at k (s ∷ slots) (s' ∷ slots') is zero slot' found = (s, refl, subst (λ i. Changes desk desk' was_opened is_opened i s slot') (let same : k ≡ k + 0 = omega arith in same) (subst (Changes desk desk' was_opened is_opened k s) (let alike : s' ≡ slot' = cc found in alike) is.0))
-  change_at k (s ∷ slots) (s' ∷ slots') is (suc j) slot' found =
-      let later = change_at (suc k) slots slots' is.1 j slot' found in
-      (later.0, later.1, subst (λ i. Changes desk desk' was_opened is_opened i later.0 slot') (let same : suc k + j ≡ k + suc j = omega arith in same) later.2)
+  pub change_at : (slots slots' : Slots) → ChangesSlots change now slots slots' → (j : ℕ) (slot' : Slot ConnectionSeen End) → slice_get slots' j ≡ Some slot'
+      → (slot : Slot ConnectionSeen End) × (slice_get slots j ≡ Some slot) × ChangesSlot change now slot slot'
+  change_at [] [] is j slot' found = absurd (cc found)
+  change_at [] (s' ∷ slots') is j slot' found = absurd is
+  change_at (s ∷ slots) [] is j slot' found = absurd is
+  change_at (s ∷ slots) (s' ∷ slots') is zero slot' found = (s, refl, subst (ChangesSlot change now s) (let alike : s' ≡ slot' = cc found in alike) is.0)
+  change_at (s ∷ slots) (s' ∷ slots') is (suc j) slot' found = change_at slots slots' is.1 j slot' found
 
-pub paint_keeps : ChangingKeeps → {B : Type 0} → PaintKeeps B
-paint_keeps changing known was_opened is_opened desk' slots' s desktop holds more change steady = record {
-  desktop = desktop;
-  holds = holds;
-  clocked = steady.clocked;
-  counted = many.0 ∙ steady.counted;
-  few = let most = steady.few in let same = many.1 in omega (arith, most, same);
-  failed = steady.failed;
-  slots = slots;
-}
-  where
-    many : (length slots' ≡ length s.slots) × (open_count slots' ≡ open_count s.slots)
-    many = as_many s.desk desk' was_opened is_opened 0 s.slots slots' change
+module _ (changing : ChangingKeeps) (tells_so : ChangingTells) (stays : ChangeStays) (marks : ChangeMarks) {B : Type 0} (known : Known B) (was_opened is_opened : ℕ → Bool) (change : Change) (desk' : List Window) (s : Seen B)
+    (desktop : IsDesktop desk') (holds : HoldsDesk desk' is_opened) (desks : DeskChanges change s.desk desk') (numbers : NumbersChange change was_opened is_opened) (steady : IsSteady known was_opened s) where
+  one : (j : ℕ) (slot slot' : Slot ConnectionSeen End) → ChangesSlot change s.clock slot slot' → IsSlot known.tells s.desk was_opened (known.connection s.bay) (length s.slots) j slot
+      → IsSlot known.tells desk' is_opened (known.connection s.bay) (length s.slots) j slot'
+  one j (Open c) slot' is kept = subst (IsSlot known.tells desk' is_opened (known.connection s.bay) (length s.slots) j) (sym is.1)
+      (changing known.tells s.desk desk' was_opened is_opened j (known.connection s.bay j) c is.0 (opens_more change was_opened is_opened numbers) is.2.framing
+      (client_stays stays marks change s.clock was_opened is_opened c.client _ numbers is.2.client)
+      (λ sent told. tells_so s.desk desk' was_opened is_opened j s.clock change c.client _ sent steady.desktop desks numbers is.2.client told) kept)
+  one j Away slot' is kept = absurd kept
+  one j (Ended e) slot' is kept = subst (IsSlot known.tells desk' is_opened (known.connection s.bay) (length s.slots) j) (sym is) kept
 
-    one : (j : ℕ) (slot slot' : Slot ConnectionSeen End) → Changes s.desk desk' was_opened is_opened j slot slot' → IsSlot known.tells s.desk was_opened (known.connection s.bay) (length s.slots) j slot
-        → IsSlot known.tells desk' is_opened (known.connection s.bay) (length s.slots) j slot'
-    one j (Open c) slot' is kept = subst (IsSlot known.tells desk' is_opened (known.connection s.bay) (length s.slots) j) (sym is.1)
-        (changing known.tells s.desk desk' was_opened is_opened j (known.connection s.bay j) c is.0 more is.2.framing is.2.stays is.2.told kept)
-    one j Away slot' is kept = absurd kept
-    one j (Ended e) slot' is kept = subst (IsSlot known.tells desk' is_opened (known.connection s.bay) (length s.slots) j) (sym is) kept
+  pub painted_steady : (slots' : Slots) → ChangesSlots change s.clock s.slots slots' → IsSteady known is_opened (record s { desk = desk'; slots = slots' })
+  painted_steady slots' changes = record {
+    desktop = desktop;
+    holds = holds;
+    clocked = steady.clocked;
+    counted = many.0 ∙ steady.counted;
+    few = let most = steady.few in let same = many.1 in omega (arith, most, same);
+    failed = steady.failed;
+    slots = slots;
+  }
+    where
+      many : (length slots' ≡ length s.slots) × (open_count slots' ≡ open_count s.slots)
+      many = as_many change s.clock s.slots slots' changes
 
-    slots : AreSlots known.tells desk' is_opened (known.connection s.bay) (length slots') slots'
-    slots j slot' found =
-        let was = change_at s.desk desk' was_opened is_opened 0 s.slots slots' change j slot' found in
-        subst (λ n. IsSlot known.tells desk' is_opened (known.connection s.bay) n j slot') (sym many.0) (one j was.0 slot' (subst (λ i. Changes s.desk desk' was_opened is_opened i was.0 slot') (let same : 0 + j ≡ j = omega arith in same) was.2) (steady.slots j was.0 was.1))
+      slots : AreSlots known.tells desk' is_opened (known.connection s.bay) (length slots') slots'
+      slots j slot' found =
+          let was = change_at change s.clock s.slots slots' changes j slot' found in
+          subst (λ n. IsSlot known.tells desk' is_opened (known.connection s.bay) n j slot') (sym many.0) (one j was.0 slot' was.2 (steady.slots j was.0 was.1))
+
+pub paint_keeps : ChangingKeeps → ChangingTells → ChangeStays → ChangeMarks → {B : Type 0} → PaintKeeps B
+paint_keeps changing tells_so stays marks known was_opened is_opened change desk' old new desktop holds desks numbers paints steady =
+    subst (IsSteady known is_opened) (sym paints.rest) (painted_steady changing tells_so stays marks known was_opened is_opened change desk' old desktop holds desks numbers steady new.slots paints.slots)
 
 pub session_owes : KeptOwesWhatDiffers → {B : Type 0} → SessionOwesWhatDiffers B
 session_owes owes known were_opened s k c client steady at is =

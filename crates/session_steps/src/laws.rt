@@ -10,12 +10,14 @@ ghost use Rattle.session_steps.specs.Laws.{
   SessionOwesWhatDiffers,
 };
 
+use attached_client::{a_change_keeps_a_client, a_change_keeps_marks};
 use connection_ends::causes_stay;
 use connection_steps::{
-    a_change_keeps_a_connection, a_refused_client_gets_its_goodbye, a_write_keeps_a_connection,
+    a_paint_line_keeps_a_connection, a_refused_client_gets_its_goodbye, a_write_keeps_a_connection,
     an_accepted_connection_is_kept, an_attached_client_has_greeted, differing_pixels_are_owed,
     hearing_keeps_a_connection, what_ends_a_talk_was_given,
 };
+use open_connection::a_change_keeps_a_connection;
 
 /// A session of a fresh provider, before its first step; the clock goes on; and a provider is asked for peers.
 pub fn a_session_begins_steady<B>()
@@ -55,11 +57,14 @@ pub fn a_write_keeps_a_session<B>()
     causes_stay();
 }
 
-/// A paint line, where each open connection is told of the desktop after it.
+/// A paint line, which changes the desktop and the numbers opened so far as it says.
 pub fn a_paint_line_keeps_a_session<B>()
     ensures { PaintKeeps B }
 {
+    a_paint_line_keeps_a_connection();
     a_change_keeps_a_connection();
+    a_change_keeps_a_client();
+    a_change_keeps_marks();
 }
 
 /// Each pixel in which an attached client's picture, read from the bytes sent to it, differs from the desktop is owed.

@@ -1,5 +1,5 @@
 use Rattle.connection_steps.proofs.Changing.{changing_keeps}
-use Rattle.connection_steps.proofs.laws.a_change_keeps_a_connection.Goals as goal
+use Rattle.connection_steps.proofs.laws.a_paint_line_keeps_a_connection.Goals as goal
 
 pub returns : goal.returns
 returns c = changing_keeps c.marks_stay_true.ensures.begins
