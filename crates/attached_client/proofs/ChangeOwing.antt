@@ -10,12 +10,13 @@ use Rattle.client_delivery.specs.Owed.{owes}
 use Rattle.client_delivery.specs.Owing.{PaintOwes, OpenOwes, CloseOwes, PutOwes}
 use Rattle.attached_client.specs.declared.change.Change.{Change}
 use Rattle.attached_client.specs.declared.change.Change.TheVariants as C
-use Rattle.attached_client.specs.Client.{ClientSeen, announced_at}
-use Rattle.attached_client.specs.Changes.{wid_of, ChangesWhere, lost_packet, moved_packet, raised_packet}
+use Rattle.attached_client.specs.Client.{ClientSeen}
+use Rattle.attached_client.specs.Changes.{wid_of, ChangesWhere}
 use Rattle.attached_client.specs.Desktops.{DeskChanges}
 use Rattle.attached_client.specs.ChangeLaws.{ChangeOwes, changed_owed}
-use Rattle.attached_client.proofs.Messages.{Writes, geometry_carries}
-use Rattle.attached_client.proofs.Changing.{source_there, source_missing, no_window, lost_carries, moved_carries, raised_carries, number_at}
+use Rattle.attached_client.proofs.Messages.{Writes}
+use Rattle.attached_client.proofs.ChangeSteps.{opens_so, closes_so, moves_so, raises_so}
+use Rattle.attached_client.proofs.Changing.{source_there, source_missing, no_window, number_at}
 
 module _ (writes : Writes) (finds : KeyedFinds Window) (paints : PaintOwes) (opens : OpenOwes) (closes : CloseOwes) (puts : PutOwes) where
   pub change_owes : ChangeOwes
@@ -28,28 +29,13 @@ module _ (writes : Writes) (finds : KeyedFinds Window) (paints : PaintOwes) (ope
       as_before c' is = ap (λ (d : ClientSeen). owes d.seen k x y) is
 
       go : (change : Change) (o : Option SourceSeen) → find_source c.seen.sources (wid_of change) ≡ o → DeskChanges change desk desk' → ChangesWhere o change now c c' → owes c'.seen k x y ≡ changed_owed change c.seen k x y
-      go (C.Opened g) None found changes is = opens g.wid g.x g.y g.w g.h c.conn now c.seen c'.seen k x y found (record {
-        sources = ap (λ (d : ClientSeen). d.seen.sources) is;
-        put = record { packet = announced_at g; carries = geometry_carries writes g changes.geometry; put = ap (λ (d : ClientSeen). d.seen.out) is };
-      })
+      go (C.Opened g) None found changes is = opens g.wid g.x g.y g.w g.h c.conn now c.seen c'.seen k x y found (opens_so writes g now c c' changes.geometry is)
       go (C.Opened g) (Some s) found changes is = absurd (source_missing desk old c.seen sent told g.wid s (no_window (find_window desk g.wid) changes.new) found)
       go (C.Closed j) None found changes is = absurd (there j changes.window changes.found found)
-      go (C.Closed j) (Some s) found changes loses = closes j c.seen c'.seen k x y (record {
-        sources = ap (λ (d : ClientSeen). d.seen.sources) loses.client;
-        between = loses.between;
-        reliefs = loses.reliefs;
-        taken = loses.taken;
-        put = record { packet = lost_packet j; carries = lost_carries writes j (number_at finds desk j changes.window desktop changes.found); put = ap (λ (d : ClientSeen). d.seen.out) loses.client };
-      })
+      go (C.Closed j) (Some s) found changes loses = closes j c.seen c'.seen k x y (closes_so writes j c c' (number_at finds desk j changes.window desktop changes.found) loses)
       go (C.Moved g) None found changes is = absurd (there g.wid changes.window changes.found found)
-      go (C.Moved g) (Some s) found changes is = puts (T.WindowMoveResize g.wid g.x g.y g.w g.h) c.seen c'.seen k x y refl (record {
-        sources = ap (λ (d : ClientSeen). d.seen.sources) is;
-        put = record { packet = moved_packet g; carries = moved_carries writes g changes.geometry; put = ap (λ (d : ClientSeen). d.seen.out) is };
-      })
+      go (C.Moved g) (Some s) found changes is = puts (T.WindowMoveResize g.wid g.x g.y g.w g.h) c.seen c'.seen k x y refl (moves_so writes g c c' changes.geometry is)
       go (C.Raised j) None found changes is = absurd (there j changes.window changes.found found)
-      go (C.Raised j) (Some s) found changes is = puts (T.RaiseWindow j) c.seen c'.seen k x y refl (record {
-        sources = ap (λ (d : ClientSeen). d.seen.sources) is;
-        put = record { packet = raised_packet j; carries = raised_carries writes j (number_at finds desk j changes.window desktop changes.found); put = ap (λ (d : ClientSeen). d.seen.out) is };
-      })
+      go (C.Raised j) (Some s) found changes is = puts (T.RaiseWindow j) c.seen c'.seen k x y refl (raises_so writes j c c' (number_at finds desk j changes.window desktop changes.found) is)
       go (C.Damaged j r) None found changes is = absurd (there j changes.window changes.found found)
       go (C.Damaged j r) (Some s) found changes is = ap (λ (d : ClientSeen). owes d.seen k x y) is ∙ paints j r now c.seen k x y

@@ -24,7 +24,8 @@ use Rattle.attached_client.specs.Client.{ClientSeen, plain_packet, announced_at}
 use Rattle.attached_client.specs.Changes.{wid_of, ChangesWhere, ClientChanges, Fits, FitsSource, Loses, lost_packet, moved_packet, raised_packet}
 use Rattle.attached_client.specs.Desktops.{DeskChanges, NumbersChange, SameNumbers}
 use Rattle.attached_client.specs.ChangeLaws.{ChangeKeeps, ChangeFits, ChangeStays, SameClient}
-use Rattle.attached_client.proofs.Messages.{Writes, is_message, geometry_carries}
+use Rattle.attached_client.proofs.Messages.{Writes}
+use Rattle.attached_client.proofs.ChangeSteps.{opens_so, closes_so, moves_so, raises_so}
 
 -- ---- a client has a source where the desktop has a window
 
@@ -46,21 +47,6 @@ module _ (desk : List Window) (old : ℕ → Bool) (a : AttachedSeen) (sent : Li
 
   pub source_missing : (s : SourceSeen) → find_window desk k ≡ None → find_source a.sources k ≡ Some s → ⊥
   source_missing s none some = is_missing (find_source a.sources k) s (subst (λ (o : Option Window). AreOfOneSize o (find_source a.sources k)) none (told.delivered.sized k)) some
-
--- ---- messages that are no draws
-
-module _ (writes : Writes) where
-  pub lost_carries : (k : ℕ) → IsNumber k → Carries (structure (lost_packet k) (T.LostWindow k))
-  lost_carries k is = record { message = is_message writes (T.LostWindow k) tt is refl; draw = tt; plain = λ none x y. refl }
-
-  pub raised_carries : (k : ℕ) → IsNumber k → Carries (structure (raised_packet k) (T.RaiseWindow k))
-  raised_carries k is = record { message = is_message writes (T.RaiseWindow k) tt is refl; draw = tt; plain = λ none x y. refl }
-
-  pub moved_carries : (g : Geometry) → IsGeometry g → Carries (structure (moved_packet g) (T.WindowMoveResize g.wid g.x g.y g.w g.h))
-  moved_carries g is = record { message = is_message writes (T.WindowMoveResize g.wid g.x g.y g.w g.h) tt fields refl; draw = tt; plain = λ none x y. refl }
-    where
-      fields : HasFields (T.WindowMoveResize g.wid g.x g.y g.w g.h)
-      fields = (record { first = is.first; last = omega (arith, is.last) }, is.across, is.down, is.wide, is.high)
 
 -- ---- windows
 
@@ -117,28 +103,20 @@ module _ (writes : Writes) (finds : KeyedFinds Window) (paints : PaintKeeps) (op
 
   opening : (g : Geometry) (desk : List Window) (old new : ℕ → Bool) (now : ℕ) (c c' : ClientSeen) (sent : List ℕ) → IsWindow (fresh_window g.wid g.x g.y g.w g.h) → IsGeometry g
       → NumbersChange (C.Opened g) old new → ChangesWhere None (C.Opened g) now c c' → IsTold desk old c.seen sent → IsTold (opened desk g.wid g.x g.y g.w g.h) new c'.seen sent
-  opening g desk old new now c c' sent window is numbers becomes told = opens desk old new g.wid g.x g.y g.w g.h c.conn now c.seen c'.seen sent window numbers (record {
-    sources = ap (λ (d : ClientSeen). d.seen.sources) becomes;
-    put = record { packet = announced_at g; carries = geometry_carries writes g is; put = ap (λ (d : ClientSeen). d.seen.out) becomes };
-  }) told
+  opening g desk old new now c c' sent window is numbers becomes told = opens desk old new g.wid g.x g.y g.w g.h c.conn now c.seen c'.seen sent window numbers (opens_so writes g now c c' is becomes) told
 
   closing : (k : ℕ) (desk : List Window) (window : Window) (old : ℕ → Bool) (c c' : ClientSeen) (sent : List ℕ) → IsDesktop desk → find_window desk k ≡ Some window
       → Loses k (lost_packet k) c c' → IsTold desk old c.seen sent → IsTold (without_window desk k) old c'.seen sent
   closing k desk window old c c' sent desktop found loses told =
       subst (λ (j : ℕ). find_window desk j ≡ Some window → Loses j (lost_packet j) c c' → IsTold (without_window desk j) old c'.seen sent) (named desk k window found)
-      (λ found loses. closes desk old window c.seen c'.seen sent desktop found (record {
-        sources = ap (λ (d : ClientSeen). d.seen.sources) loses.client;
-        between = loses.between;
-        reliefs = loses.reliefs;
-        taken = loses.taken;
-        put = record { packet = lost_packet window.wid; carries = lost_carries writes window.wid (number_of window (found_is desk window.wid window desktop.windows found)); put = ap (λ (d : ClientSeen). d.seen.out) loses.client };
-      }) told) found loses
+      (λ found loses. closes desk old window c.seen c'.seen sent desktop found (closes_so writes window.wid c c' (number_at finds desk window.wid window desktop found) loses) told) found loses
 
   moving : (g : Geometry) (desk : List Window) (window : Window) (old : ℕ → Bool) (now : ℕ) (c c' : ClientSeen) (sent : List ℕ) → IsDesktop desk → IsGeometry g → find_window desk g.wid ≡ Some window
       → g.w ≡ window.w → g.h ≡ window.h → (s : SourceSeen) → ChangesWhere (Some s) (C.Moved g) now c c' → IsTold desk old c.seen sent → IsTold (moved_on desk g.wid g.x g.y) old c'.seen sent
   moving g desk window old now c c' sent desktop is found wide high s becomes told =
       subst (λ (j : ℕ). IsTold (moved_on desk j g.x g.y) old c'.seen sent) same
-      (moves desk old window g.x g.y c.seen c'.seen sent desktop (subst (λ (j : ℕ). find_window desk j ≡ Some window) (sym same) found) (subst (λ (m : ToClient). PutsAlone m c.seen c'.seen) message puts) told)
+      (moves desk old window g.x g.y c.seen c'.seen sent desktop (subst (λ (j : ℕ). find_window desk j ≡ Some window) (sym same) found)
+      (subst (λ (m : ToClient). PutsAlone m c.seen c'.seen) message (moves_so writes g c c' is becomes)) told)
     where
       same : window.wid ≡ g.wid
       same = named desk g.wid window found
@@ -146,20 +124,11 @@ module _ (writes : Writes) (finds : KeyedFinds Window) (paints : PaintKeeps) (op
       message : T.WindowMoveResize g.wid g.x g.y g.w g.h ≡ T.WindowMoveResize window.wid g.x g.y window.w window.h
       message = ap (λ (j : ℕ). T.WindowMoveResize j g.x g.y g.w g.h) (sym same) ∙ ap (λ (w : ℕ). T.WindowMoveResize window.wid g.x g.y w g.h) wide ∙ ap (λ (h : ℕ). T.WindowMoveResize window.wid g.x g.y window.w h) high
 
-      puts : PutsAlone (T.WindowMoveResize g.wid g.x g.y g.w g.h) c.seen c'.seen
-      puts = record {
-        sources = ap (λ (d : ClientSeen). d.seen.sources) becomes;
-        put = record { packet = moved_packet g; carries = moved_carries writes g is; put = ap (λ (d : ClientSeen). d.seen.out) becomes };
-      }
-
   raising : (k : ℕ) (desk : List Window) (window : Window) (old : ℕ → Bool) (now : ℕ) (c c' : ClientSeen) (sent : List ℕ) → IsDesktop desk → find_window desk k ≡ Some window
       → (s : SourceSeen) → ChangesWhere (Some s) (C.Raised k) now c c' → IsTold desk old c.seen sent → IsTold (raised desk k) old c'.seen sent
   raising k desk window old now c c' sent desktop found s becomes told =
       subst (λ (j : ℕ). find_window desk j ≡ Some window → ChangesWhere (Some s) (C.Raised j) now c c' → IsTold (raised desk j) old c'.seen sent) (named desk k window found)
-      (λ found becomes. raises desk old window c.seen c'.seen sent desktop found (record {
-        sources = ap (λ (d : ClientSeen). d.seen.sources) becomes;
-        put = record { packet = raised_packet window.wid; carries = raised_carries writes window.wid (number_of window (found_is desk window.wid window desktop.windows found)); put = ap (λ (d : ClientSeen). d.seen.out) becomes };
-      }) told) found becomes
+      (λ found becomes. raises desk old window c.seen c'.seen sent desktop found (raises_so writes window.wid c c' (number_at finds desk window.wid window desktop found) becomes) told) found becomes
 
   painting : (k : ℕ) (r : Rectangle) (desk : List Window) (window window' : Window) (old : ℕ → Bool) (now : ℕ) (c c' : ClientSeen) (sent : List ℕ) → IsDesktop desk → find_window desk k ≡ Some window
       → IsPainted r window window' → (s : SourceSeen) → ChangesWhere (Some s) (C.Damaged k r) now c c' → IsTold desk old c.seen sent → IsTold (changed_window desk k (λ w. window')) old c'.seen sent

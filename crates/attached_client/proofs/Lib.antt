@@ -8,7 +8,9 @@ pub mod Damages
 pub mod Begun
 pub mod Pixels
 pub mod CarriedOut
+pub mod ChangeSteps
 pub mod Changing
 pub mod ChangeMarking
 pub mod ChangeOwing
+pub mod ChangeNumbering
 pub mod Examples

@@ -1,9 +1,10 @@
 -- What follows of a client's change beside the desktop's.
-use Rattle.std.specs.Prelude.{ℕ, ◌≡◌, ◌==◌, ◌&&◌, ◌||◌, not, if◌then◌else◌, Bool, true, false, Option, Some, None, List}
+use Rattle.std.specs.Prelude.{ℕ, ◌≡◌, ◌≤◌, ◌==◌, ◌&&◌, ◌||◌, not, if◌then◌else◌, Bool, true, false, Option, Some, None, List}
 use Rattle.xp_base.specs.Points.{is_in, is_within}
 use Rattle.window_model.specs.Desktop.{Window, IsDesktop}
 use Rattle.client_delivery.specs.Attached.{AttachedSeen}
 use Rattle.client_delivery.specs.Delivered.{IsTold}
+use Rattle.client_delivery.specs.Numbered.{AreNumbered}
 use Rattle.client_delivery.specs.Owed.{owes}
 use Rattle.client_delivery.specs.Owing.{has_place}
 use Rattle.attached_client.specs.declared.change.Change.{Change}
@@ -59,3 +60,9 @@ changed_owed (C.Damaged j r) a k x y = owes a k x y || ((k == j) && (has_place a
 abbrev pub ChangeOwes : Type 0
 ChangeOwes = (desk desk' : List Window) (old : ℕ → Bool) (change : Change) (now : ℕ) (c c' : ClientSeen) (sent : List ℕ) (k x y : ℕ)
     → IsDesktop desk → DeskChanges change desk desk' → IsTold desk old c.seen sent → ClientChanges change now c c' → owes c'.seen k x y ≡ changed_owed change c.seen k x y
+
+-- the numbers of jobs and draws stay in order, up to the next job's number
+abbrev pub ChangeNumbers : Type 0
+ChangeNumbers = (desk desk' : List Window) (old new : ℕ → Bool) (change : Change) (now next : ℕ) (c c' : ClientSeen) (sent : List ℕ) → 1 ≤ next
+    → IsDesktop desk → DeskChanges change desk desk' → NumbersChange change old new → IsTold desk old c.seen sent → ClientChanges change now c c'
+    → AreNumbered next c.seen → AreNumbered next c'.seen

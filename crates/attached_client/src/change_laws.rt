@@ -1,7 +1,10 @@
 // What follows of a client's change beside the desktop's. Each law makes the calls of the laws that it stands on.
-ghost use Rattle.attached_client.specs.ChangeLaws.{ChangeKeeps, ChangeFits, ChangeStays, ChangeMarks, ChangeOwes};
+ghost use Rattle.attached_client.specs.ChangeLaws.{ChangeKeeps, ChangeFits, ChangeStays, ChangeMarks, ChangeOwes, ChangeNumbers};
 
-use client_delivery::{each_paint_changes_owed_so, each_paint_keeps_what_is_told};
+use client_delivery::{
+    a_window_begins_numbered, each_paint_changes_owed_so, each_paint_keeps_the_numbering,
+    each_paint_keeps_what_is_told,
+};
 use packet_kinds::{
     a_plain_message_has_a_small_value, a_plain_message_may_be_written,
     what_is_written_is_read_as_the_same_message,
@@ -38,6 +41,18 @@ pub fn a_change_changes_owed_so()
 {
     keyed_finds::<Win>();
     each_paint_changes_owed_so();
+    what_is_written_is_read_as_the_same_message();
+    a_plain_message_may_be_written();
+    a_plain_message_has_a_small_value();
+}
+
+/// The numbers of jobs and draws stay in order.
+pub fn a_change_keeps_the_numbering()
+    ensures { ChangeNumbers }
+{
+    keyed_finds::<Win>();
+    a_window_begins_numbered();
+    each_paint_keeps_the_numbering();
     what_is_written_is_read_as_the_same_message();
     a_plain_message_may_be_written();
     a_plain_message_has_a_small_value();

@@ -12,6 +12,9 @@ mod preparing;
 mod sending;
 
 pub use change::{Change, Prepared};
-pub use change_laws::{a_change_changes_owed_so, a_change_keeps_a_client, a_change_keeps_marks};
+pub use change_laws::{
+    a_change_changes_owed_so, a_change_keeps_a_client, a_change_keeps_marks,
+    a_change_keeps_the_numbering,
+};
 pub use client::Attached;
 pub use laws::{a_new_client_attaches, acting_keeps_what_is_told, messages_mark_and_owe_so};

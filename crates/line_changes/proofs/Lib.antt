@@ -1,0 +1,4 @@
+pub mod Pixels
+pub mod Lines
+pub mod Numbers
+pub mod Examples

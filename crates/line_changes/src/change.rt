@@ -1,0 +1,79 @@
+// A paint line as clients meet it.
+ghost use Rattle.std.specs.Prelude.{◌≡◌, false};
+ghost use Rattle.xp_base.specs.Points.{IsRectangle};
+ghost use Rattle.paint_script.specs.Painting.{rectangle};
+ghost use Rattle.paint_script.specs.Validity.{IsPaintOn, IsMoveOn};
+ghost use Rattle.attached_client.specs.declared.change.Change.TheVariants as C;
+ghost use Rattle.line_changes.specs.Changes.{IsChangeOf, IsMoveOf, resizes};
+
+use attached_client::Change;
+use script_lines::Paint;
+use window_model::{Desk, Geometry};
+use xp_base::{Rect, Wid};
+
+/// What the line is to a client, on the desktop that it meets. A fill, a copy and noise are the rectangle whose pixels they
+/// change: that of a copy has its target's corner. The change of a `resize` is to come.
+pub fn change_of(line: &Paint, desk: &Desk) -> Change
+    requires valid { IsPaintOn desk.now line.now }
+    requires other { resizes line.now ≡ false }
+    ensures { IsChangeOf desk.now line.now result }
+{
+    // For the proof: what every desktop keeps.
+    let _windows = desk.len();
+    match *line {
+        Paint::Open { wid, x, y, w, h } => Change::Opened(Geometry::new(wid, x, y, w, h)),
+        Paint::Close { wid } => Change::Closed(wid),
+        Paint::Fill {
+            wid,
+            x,
+            y,
+            w,
+            h,
+            c: _,
+        } => damaged(wid, x, y, w, h),
+        Paint::Copy {
+            wid,
+            x: _,
+            y: _,
+            w,
+            h,
+            tx,
+            ty,
+        } => damaged(wid, tx, ty, w, h),
+        Paint::Noise {
+            wid,
+            x,
+            y,
+            w,
+            h,
+            seed: _,
+        } => damaged(wid, x, y, w, h),
+        Paint::Move { wid, x, y } => moved(desk, wid, x, y),
+        Paint::Raise { wid } => Change::Raised(wid),
+        Paint::Resize { .. } => unreachable!(),
+    }
+}
+
+/// A rectangle of a window has other pixels perhaps.
+fn damaged(wid: Wid, x: u32, y: u32, w: u32, h: u32) -> Change
+    requires { IsRectangle (rectangle x y w h) }
+    ensures { result ≡ C.Damaged wid (rectangle x y w h) }
+{
+    let Some(r) = Rect::new(x, y, w, h) else {
+        unreachable!()
+    };
+    Change::Damaged(wid, r)
+}
+
+/// A window that has its size has another place.
+fn moved(desk: &Desk, wid: Wid, x: i32, y: i32) -> Change
+    requires { IsMoveOn desk.now wid x y }
+    ensures { IsMoveOf desk.now wid x y result }
+{
+    let Some(window) = desk.find(wid) else {
+        unreachable!()
+    };
+    // For the proof: what every window keeps.
+    let _area = window.area();
+    Change::Moved(Geometry::new(wid, x, y, window.w, window.h))
+}
