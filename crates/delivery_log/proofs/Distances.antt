@@ -1,16 +1,19 @@
 -- The distance from rest: it is the least of its table, and what the parts of a turn do to it.
-use Rattle.std.proofs.Common.{◌≡◌, ◌↔◌, ◌⊎◌, inl, inr, ℕ, ◌-◌, ◌<◌, ◌≤◌, Bool, true, false, not, ◌&&◌, ◌||◌, List, [], ◌∷◌, Option, Some, None, cond, refl, sym, ap, ◌∙◌, subst, arith}
+use Rattle.std.proofs.Common.{◌≡◌, ◌↔◌, ◌⊎◌, inl, inr, ℕ, ◌+◌, ◌-◌, ◌<◌, ◌≤◌, Bool, true, false, not, ◌&&◌, ◌||◌, List, [], ◌∷◌, ◌++◌, length, Option, Some, None, cond, refl, sym, ap, ◌∙◌, subst, arith}
 use Rattle.std.specs.Prelude.{All, max}
 use Rattle.std.proofs.lemmas.Bool.{cases_Bool, and_from, or_parts, false_from_ne_true, false≢true}
 use Rattle.std.proofs.lemmas.List.Elements.{All-nil, All-cons, All-head, All-tail}
 use Rattle.xp_base.specs.Points.{Rectangle, is_within}
-use Rattle.delivery_model.specs.Grids.{Points, has, points}
+use Rattle.delivery_model.specs.Grids.{Grid, Points, has, points}
 use Rattle.delivery_model.specs.Window.{Job, Packet, Window}
-use Rattle.delivery_model.specs.Events.{is_empty, Planned, captured, painted, queue_ready, with_result, filing_of, capture_of, rect_sent, without_sent, counted, acknowledged_as, given_back, Filing, filed_as, written_front, Event, Start, Paint, Capture, File, Write, Acknowledge, MapWindow, UnmapWindow, Recall, Resize, BufferRefresh, Close, changed, step}
+use Rattle.delivery_model.specs.Events.{is_empty, Planned, region_taken, jobs_of, captured, acknowledged, painted, queue_ready, with_result, filing_of, capture_of, rect_sent, without_sent, counted, acknowledged_as, given_back, Filing, filed_as, written_front, Event, Start, Paint, Capture, File, Write, Acknowledge, MapWindow, UnmapWindow, Recall, Resize, BufferRefresh, Close, changed, step}
+use Rattle.delivery_model.specs.Refusals.{is_allowed, capture_answer, captured_where}
+use Rattle.delivery_model.specs.Numbers.{IsNumbered}
 use Rattle.delivery_model.specs.Owed.{is_owed, owes}
 use Rattle.delivery_model.proofs.Grids.{has-points_within, has-empty, points_alike, empty-has_none, none-is_empty}
-use Rattle.delivery_log.specs.Rest.{is_idle, owes_nothing, rest, greatest_rest, rest_of, read, Result, file_all, write_all, Turn, turned, AtZero, AtOne, AtTwo, IsLeast, IsLeastOf, IsPointwise, PointwiseWhereThere, turned_all, AreQuiet, CameNearer}
-use Rattle.delivery_log.proofs.Reading.{ReadsAs, read_reads, idle_from}
+use Rattle.delivery_model.proofs.Numberings.{numbered_step}
+use Rattle.delivery_log.specs.Rest.{FrontWaits, HaveResults, captured_in, is_idle, owes_nothing, rest, greatest_rest, rest_of, read, Result, file_all, write_all, Turn, turned, AtZero, AtOne, AtTwo, IsLeast, IsLeastOf, IsPointwise, PointwiseWhereThere, turned_all, AreQuiet, CameNearer}
+use Rattle.delivery_log.proofs.Reading.{ReadsAs, read_reads, idle_from, filing_empties}
 use Rattle.delivery_log.proofs.Turns.{StaysAs, stays_trans, file_all_stays, write_all_writes, quiet_turn_rests, clients_come_nearer, filed_stays, front_writes}
 
 -- each row by its tests
@@ -244,6 +247,34 @@ ends_nearer lossy_shows now results writes w jobs packets = (two_low v (cases_Bo
     which empty (inr unmapped) owing = low_from (rest v) 0 1 (rest_unmapped v idle unmapped) (omega arith)
     which empty (inl mapped) (inl nothing) = low_from (rest v) 0 1 (rest_unowed v idle mapped nothing) (omega arith)
     which empty (inl mapped) (inr some) = low_from (rest v) 1 1 (rest_unpending v idle mapped some empty) (omega arith)
+
+-- where each job that is in hand after the capture has its result, none is in hand at the end
+read_numbered : (next t : ℕ) (ks : List ℕ) (w : Window) → 1 ≤ next → IsNumbered next w → IsNumbered next (read t ks w)
+read_numbered next t [] w first numbered = numbered
+read_numbered next t (k ∷ ks) w first numbered = read_numbered next t ks (acknowledged k false t w) first (numbered_step (λ n. n) next (Some w) (Acknowledge k false t) first tt numbered)
+
+front_append : (jobs new : List Job) → FrontWaits jobs → FrontWaits new → FrontWaits (jobs ++ new)
+front_append [] new waits fresh = fresh
+front_append (j ∷ jobs) new waits fresh = waits
+
+front_new : (desk : Grid) (region : Points) (first : ℕ) (plan : List Planned) → FrontWaits (jobs_of desk region first plan)
+front_new desk region first [] = tt
+front_new desk region first (p ∷ plan) = refl
+
+captured_empties : (b : Bool) (t : Turn) (r : Window) → 1 ≤ t.first → IsNumbered t.first r → FrontWaits r.jobs → HaveResults t.results (captured_where b t.plan t.first r).jobs
+    → (file_all t.now t.results (captured_where b t.plan t.first r)).jobs ≡ []
+captured_empties true t r first numbered waits have = filing_empties (t.first + length t.plan) t.now t.results (captured t.plan t.first r)
+    (numbered_step (λ n. n) t.first (Some r) (Capture t.plan t.first) first (omega arith) numbered) (front_append r.jobs (jobs_of r.desk (region_taken r) t.first t.plan) waits (front_new r.desk (region_taken r) t.first t.plan)) have
+captured_empties false t r first numbered waits have = filing_empties t.first t.now t.results r numbered waits have
+
+pub results_empty : (lossy_shows : ℕ → ℕ) (t : Turn) (w : Window) → 1 ≤ t.first → IsNumbered t.first w → FrontWaits w.jobs → HaveResults t.results (captured_in t (read t.read_at t.acknowledged w)).jobs
+    → (turned lossy_shows t w).jobs ≡ []
+results_empty lossy_shows t w first numbered waits have =
+    (write_all_writes lossy_shows t.writes (file_all t.now t.results (captured_in t r))).jobs
+    ∙ captured_empties (is_allowed (capture_answer t.now t.weight t.first r)) t r first (read_numbered t.first t.read_at t.acknowledged w first numbered) (rw (read_reads t.read_at t.acknowledged w).jobs waits) have
+  where
+    r : Window
+    r = read t.read_at t.acknowledged w
 
 -- a quiet turn of a client
 each_nearer : (lossy_shows : ℕ → ℕ) (clock : ℕ) (ts : List Turn) (ws : List Window) → AreQuiet lossy_shows clock ts ws → CameNearer ws (turned_all lossy_shows ts ws)

@@ -19,7 +19,7 @@ use Rattle.delivery_model.specs.Owed.{owes}
 use Rattle.delivery_model.specs.Laws.{KeptWhereThere}
 use Rattle.delivery_model.proofs.Runs.{kept_run}
 use Rattle.delivery_log.specs.Times.{IsTimed, TimedWhereThere}
-use Rattle.delivery_log.specs.Rest.{is_idle, rest, rest_of, read, Result, file_all, write_all, Turn, turned, is_waiting, AllAcknowledged, FrontWaits, HaveResults, CameNearer, IsQuiet, AtZero, IsLeast}
+use Rattle.delivery_log.specs.Rest.{is_none, is_idle, rest, rest_of, read, Result, file_all, write_all, Turn, turned, is_waiting, AllAcknowledged, FrontWaits, HaveResults, CameNearer, IsQuiet, AtZero, IsLeast}
 use Rattle.delivery_log.proofs.Situations.{next_number, rect, exact, coarse, result, coarsely, black}
 use Rattle.delivery_log.proofs.Neighbours.{end_of, pends, in_hand, repaired, lossy, pends_lossy_plan, never}
 
@@ -177,6 +177,18 @@ numbered_result j = list_any (λ (r : Result). nat_eq r.number j.number) (foreig
 not_by_number : NumbersAreResults → ⊥
 not_by_number claim = some_job job_one [] (claim 2 0 (foreign ∷ []) left_waiting (record { jobs = (omega arith, omega arith); waiting = omega arith; unacknowledged = omega arith; room = omega arith }) refl (All-cons numbered_result job_one [] refl (All-nil numbered_result)))
 
+-- wrong: that the results of the jobs from before a turn are enough. The turn's own capture has jobs too.
+abbrev OldResultsEmpty : Type 0
+OldResultsEmpty = (t : Turn) (w : Window) → 1 ≤ t.first → IsNumbered t.first w → FrontWaits w.jobs → HaveResults t.results w.jobs → (turned next_number t w).jobs ≡ []
+
+-- a turn in which nothing is acknowledged, filed or written
+abbrev idle_turn : ℕ → ℕ → Turn
+idle_turn now first = record { acknowledged = []; read_at = 0; now = now; weight = 0; first = first; plan = exact (rect 0 0 1 1) ∷ []; results = []; writes = [] }
+
+not_old_results : OldResultsEmpty → ⊥
+unfolding each_point has number number_in is_empty
+not_old_results claim = false≢true (ap (λ (jobs : List Job). is_none jobs) (claim (idle_turn 500 1) pending (omega arith) pending_numbered tt (All-nil (has_result []))))
+
 -- wrong: that writes of parts leave no packet waiting
 abbrev PartsEmpty : Type 0
 PartsEmpty = (w : Window) → (write_all next_number (replicate (length w.packets) false) w).packets ≡ []
@@ -258,10 +270,6 @@ abbrev CongestedTurnsRest : Type 0
 CongestedTurnsRest = (clock : ℕ) (t : Turn) (w : Window) → IsKept w → IsNumbered t.first w → IsTimed clock w → clock + 500 ≤ t.now → t.weight < 33_554_432 → t.first < 2 ^ 62
     → (is_allowed (capture_answer t.now t.weight t.first (read t.read_at t.acknowledged w)) ≡ true → IsCaptureOf (read t.read_at t.acknowledged w) t.plan)
     → (turned next_number t w).jobs ≡ [] → (turned next_number t w).packets ≡ [] → rest (turned next_number t w) ≤ rest w - 1
-
--- a turn in which nothing is acknowledged, filed or written
-abbrev idle_turn : ℕ → ℕ → Turn
-idle_turn now first = record { acknowledged = []; read_at = 0; now = now; weight = 0; first = first; plan = exact (rect 0 0 1 1) ∷ []; results = []; writes = [] }
 
 rises_from : (k n : ℕ) → Rise k (k + n) (map (λ (s : Sent). s.sequence) (sent_from k n))
 rises_from k zero = omega arith

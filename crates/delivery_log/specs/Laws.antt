@@ -13,7 +13,7 @@ use Rattle.delivery_log.specs.Log.{Entry, log_after, log_of}
 use Rattle.delivery_log.specs.Stale.{is_stale, is_stale_queued}
 use Rattle.delivery_log.specs.Agreement.{Agrees, AgreesWhereThere}
 use Rattle.delivery_log.specs.Times.{IsTimed, TimedWhereThere, IsBy}
-use Rattle.delivery_log.specs.Rest.{Turn, Result, IsQuiet, turned, read, file_all, write_all, rest, rest_of, is_idle, AllAcknowledged, FrontWaits, HaveResults, CameNearer, AtZero, IsLeast, IsLeastOf, IsPointwise, PointwiseWhereThere, turned_all, AreQuiet}
+use Rattle.delivery_log.specs.Rest.{Turn, Result, IsQuiet, captured_in, turned, read, file_all, write_all, rest, rest_of, is_idle, AllAcknowledged, FrontWaits, HaveResults, CameNearer, AtZero, IsLeast, IsLeastOf, IsPointwise, PointwiseWhereThere, turned_all, AreQuiet}
 
 -- for every log: where it agrees with the window before an event, it does after it, with the event's entries
 abbrev pub EventsKeepAgreement : Type 0
@@ -62,6 +62,11 @@ ReadingUnloads = (next t : ℕ) (ks : List ℕ) (w : Window) → IsNumbered next
 abbrev pub FilingEmpties : Type 0
 FilingEmpties = (next now : ℕ) (results : List Result) (w : Window) → IsNumbered next w → FrontWaits w.jobs → HaveResults results w.jobs
     → (file_all now results w).jobs ≡ []
+
+-- so in a turn, where each job that is in hand after the capture has its result
+abbrev pub ResultsEmpty : Type 0
+ResultsEmpty = (lossy_shows : ℕ → ℕ) (t : Turn) (w : Window) → 1 ≤ t.first → IsNumbered t.first w → FrontWaits w.jobs → HaveResults t.results (captured_in t (read t.read_at t.acknowledged w)).jobs
+    → (turned lossy_shows t w).jobs ≡ []
 
 -- once as many packets are written as wait, none waits
 abbrev pub WritingEmpties : Type 0

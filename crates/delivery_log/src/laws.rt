@@ -1,6 +1,6 @@
 // What is true of every log of one window of one client.
 ghost use Rattle.delivery_log.specs.Laws.{EventsKeepAgreement, AgreementWaits, OwedIsStale, UnqueuedIsStale, RunsOweWhatIsStale};
-ghost use Rattle.delivery_log.specs.Laws.{EventsKeepTimes, TimesWait, DueAfterTick, ReadingUnloads, FilingEmpties, WritingEmpties};
+ghost use Rattle.delivery_log.specs.Laws.{EventsKeepTimes, TimesWait, DueAfterTick, ReadingUnloads, FilingEmpties, ResultsEmpty, WritingEmpties};
 ghost use Rattle.delivery_log.specs.Laws.{ReadingKeepsRest, CapturePendsNothing, CaptureAllowed, EndsNearer, QuietTurnsRest, NearerTogether};
 ghost use Rattle.delivery_log.specs.Laws.{ClientsRest, ThreeTurnsRepair, RestIsLeast, ClientsRestIsLeast, EventsKeepPointwise};
 
@@ -34,12 +34,13 @@ pub fn every_event_keeps_the_times()
 {}
 
 /// What the parts of a quiet turn do: 500 milliseconds make damage and refresh due; a read of all
-/// acknowledgements takes the load of an idle window; results of all jobs leave none in hand; as many
-/// writes as there are packets leave none waiting.
+/// acknowledgements takes the load of an idle window; results of all jobs leave none in hand, those of a
+/// turn's own capture among them; as many writes as there are packets leave none waiting.
 pub fn parts_of_a_turn()
     ensures tick { DueAfterTick }
     ensures read { ReadingUnloads }
     ensures file { FilingEmpties }
+    ensures results { ResultsEmpty }
     ensures write { WritingEmpties }
 {}
 
