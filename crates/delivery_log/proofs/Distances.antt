@@ -1,12 +1,12 @@
 -- The distance from rest: it is the least of its table, and what the parts of a turn do to it.
-use Rattle.std.proofs.Common.{◌≡◌, ◌↔◌, ◌⊎◌, inl, inr, ℕ, ◌+◌, ◌-◌, ◌<◌, ◌≤◌, Bool, true, false, not, ◌&&◌, ◌||◌, List, [], ◌∷◌, ◌++◌, length, Option, Some, None, cond, refl, sym, ap, ◌∙◌, subst, arith}
+use Rattle.std.proofs.Common.{◌≡◌, ◌↔◌, ◌⊎◌, inl, inr, ℕ, ◌+◌, ◌-◌, ◌<◌, ◌≤◌, Bool, true, false, ◌&&◌, List, [], ◌∷◌, ◌++◌, length, Option, Some, None, cond, refl, sym, ap, ◌∙◌, arith}
 use Rattle.std.specs.Prelude.{All, max}
-use Rattle.std.proofs.lemmas.Bool.{cases_Bool, and_from, or_parts, false_from_ne_true, false≢true}
+use Rattle.std.proofs.lemmas.Bool.{cases_Bool, false_from_ne_true, false≢true}
 use Rattle.std.proofs.lemmas.List.Elements.{All-nil, All-cons, All-head, All-tail}
 use Rattle.xp_base.specs.Points.{Rectangle, is_within}
 use Rattle.delivery_model.specs.Grids.{Grid, Points, has, points}
-use Rattle.delivery_model.specs.Window.{Job, Packet, Window}
-use Rattle.delivery_model.specs.Events.{is_empty, Planned, region_taken, jobs_of, captured, acknowledged, painted, queue_ready, with_result, filing_of, capture_of, rect_sent, without_sent, counted, acknowledged_as, given_back, Filing, filed_as, written_front, Event, Start, Paint, Capture, File, Write, Acknowledge, MapWindow, UnmapWindow, Recall, Resize, BufferRefresh, Close, changed, step}
+use Rattle.delivery_model.specs.Window.{Job, Window}
+use Rattle.delivery_model.specs.Events.{is_empty, Planned, region_taken, jobs_of, captured, acknowledged, filing_of, capture_of, rect_sent, without_sent, counted, acknowledged_as, given_back, filed_as, written_front, Event, Start, Paint, Capture, File, Write, Acknowledge, MapWindow, UnmapWindow, Recall, Resize, BufferRefresh, Close, changed, step}
 use Rattle.delivery_model.specs.Refusals.{is_allowed, capture_answer, captured_where}
 use Rattle.delivery_model.specs.Numbers.{IsNumbered}
 use Rattle.delivery_model.specs.Owed.{is_owed, owes}

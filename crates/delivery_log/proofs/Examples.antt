@@ -1,6 +1,6 @@
 -- The situations computed: at each question what is owed, what the log alone calls stale, and how far from rest the window is; that
 -- the parts of the agreement and the numbering stand; the log itself; and what happened after a point's origin.
-use Rattle.std.proofs.Common.{◌≡◌, ℕ, Bool, true, false, List, [], ◌∷◌, ◌++◌, Option, None, refl}
+use Rattle.std.proofs.Common.{◌≡◌, ℕ, Bool, true, false, List, [], ◌∷◌, ◌++◌, None, refl}
 use Rattle.xp_base.specs.declared.coding.Coding.TheVariants as C
 use Rattle.delivery_model.specs.Grids.{each_point, has, number, number_in}
 use Rattle.delivery_model.specs.Events.{is_empty}

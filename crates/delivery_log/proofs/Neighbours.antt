@@ -1,18 +1,17 @@
 -- Statements that are near to the laws of the log and wrong. Each is refuted by a run or a log that is computed.
-use Rattle.std.proofs.Common.{◌≡◌, ℕ, zero, suc, ◌+◌, ◌-◌, ◌<◌, ◌≤◌, Bool, true, false, not, ◌&&◌, ◌||◌, List, [], ◌∷◌, ◌++◌, Option, Some, None, cond, length, refl, sym, ap, ◌∙◌, subst, arith}
-use Rattle.std.specs.Prelude.{All}
+use Rattle.std.proofs.Common.{◌≡◌, ℕ, zero, suc, ◌<◌, ◌≤◌, Bool, true, false, not, ◌&&◌, ◌||◌, List, [], ◌∷◌, ◌++◌, Option, Some, None, length, refl, sym, ap, ◌∙◌, subst, arith}
 use Rattle.std.specs.List.{list_any}
 use Rattle.std.proofs.lemmas.Bool.{false≢true}
 use Rattle.std.proofs.lemmas.Bool.Decides.{nat_tests}
 use Rattle.std.proofs.lemmas.List.Elements.{All-nil, All-cons}
 use Rattle.xp_base.specs.declared.coding.Coding.TheVariants as C
-use Rattle.xp_base.specs.Points.{Rectangle, LiesIn, is_in, is_within}
+use Rattle.xp_base.specs.Points.{LiesIn, is_in, is_within}
 use Rattle.delivery_model.specs.Grids.{Grid, each_point, has, number, number_in}
 use Rattle.delivery_model.specs.Window.{Window}
 use Rattle.delivery_model.specs.Events.{is_empty, Planned, region_taken, jobs_relieve, started, captured, written, resized, Event, Start, Paint, Capture, File, Write, MapWindow, Recall, Resize, step, run}
 use Rattle.delivery_model.specs.Refusals.{is_clean}
 use Rattle.delivery_model.specs.Plans.{IsCaptureOf, IsEvent, AreEvents}
-use Rattle.delivery_model.specs.Numbers.{NumbersFrom, next_after}
+use Rattle.delivery_model.specs.Numbers.{next_after}
 use Rattle.delivery_model.specs.Owed.{owes}
 use Rattle.delivery_model.specs.Laws.{KeptWhereThere}
 use Rattle.delivery_model.proofs.Grids.{has-inside}

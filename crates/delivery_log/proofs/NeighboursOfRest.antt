@@ -1,15 +1,14 @@
 -- Statements that are near to the laws of numbers, of times and of rest, and wrong. Each is refuted by a window that is computed.
-use Rattle.std.proofs.Common.{◌≡◌, ◌↔◌, ℕ, zero, suc, ◌+◌, ◌-◌, ◌*◌, ◌<◌, ◌≤◌, Bool, true, false, not, ◌&&◌, ◌||◌, List, [], ◌∷◌, ◌++◌, Option, Some, None, map, length, refl, sym, ap, ◌∙◌, subst, arith}
+use Rattle.std.proofs.Common.{◌≡◌, ℕ, zero, suc, ◌+◌, ◌-◌, ◌<◌, ◌≤◌, Bool, true, false, ◌&&◌, ◌||◌, List, [], ◌∷◌, Option, Some, None, map, length, refl, sym, ap, ◌∙◌, subst, arith}
 use Rattle.std.specs.Prelude.{All, replicate, nat_eq, max, ◌^◌}
 use Rattle.std.specs.List.{list_any}
 use Rattle.std.proofs.lemmas.Bool.{false≢true}
 use Rattle.std.proofs.lemmas.Bool.Decides.{nat_tests}
 use Rattle.std.proofs.lemmas.List.Elements.{All-nil, All-cons}
-use Rattle.xp_base.specs.declared.coding.Coding.TheVariants as C
 use Rattle.xp_base.specs.Points.{is_within}
-use Rattle.delivery_model.specs.Grids.{Points, each_point, has, number, number_in}
+use Rattle.delivery_model.specs.Grids.{each_point, has, number, number_in}
 use Rattle.delivery_model.specs.Window.{Job, Packet, NewWindow, Sent, Window}
-use Rattle.delivery_model.specs.Events.{is_empty, Planned, same_capture, started, acknowledged, load, Event, Start, Capture, Write, step, run}
+use Rattle.delivery_model.specs.Events.{is_empty, same_capture, started, acknowledged, load, Event, Start, Capture, Write, step}
 use Rattle.delivery_model.specs.Refusals.{is_clean, earliest, capture_answer, is_allowed}
 use Rattle.delivery_model.specs.Plans.{IsCaptureOf}
 use Rattle.delivery_model.specs.Point.{point_at, PointKept}
@@ -19,7 +18,7 @@ use Rattle.delivery_model.specs.Owed.{owes}
 use Rattle.delivery_model.specs.Laws.{KeptWhereThere}
 use Rattle.delivery_model.proofs.Runs.{kept_run}
 use Rattle.delivery_log.specs.Times.{IsTimed, TimedWhereThere}
-use Rattle.delivery_log.specs.Rest.{is_none, is_idle, rest, rest_of, read, Result, file_all, write_all, Turn, turned, is_waiting, AllAcknowledged, FrontWaits, HaveResults, CameNearer, IsQuiet, AtZero, IsLeast}
+use Rattle.delivery_log.specs.Rest.{is_none, is_idle, rest, rest_of, read, Result, file_all, write_all, Turn, turned, is_waiting, AllAcknowledged, FrontWaits, HaveResults, CameNearer, IsQuiet, IsLeast}
 use Rattle.delivery_log.proofs.Situations.{next_number, rect, exact, coarse, result, coarsely, black}
 use Rattle.delivery_log.proofs.Neighbours.{end_of, pends, in_hand, repaired, lossy, pends_lossy_plan, never}
 
