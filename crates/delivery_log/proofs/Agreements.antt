@@ -144,5 +144,6 @@ agreement_later next later log w le agrees = record {
     were_captured = agrees.jobs.were_captured;
   };
   draws = agrees.draws;
+  later = agrees.later;
   points = agrees.points;
 }

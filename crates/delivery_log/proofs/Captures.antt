@@ -26,7 +26,7 @@ use Rattle.delivery_log.specs.Traces.{Trace, Hand, written_at, waiting_at, hand_
 use Rattle.delivery_log.specs.Agreement.{recorded, queued_jobs, Agrees}
 use Rattle.delivery_log.proofs.Traces.{agrees_captured, agrees_refreshed, agrees_queued}
 use Rattle.delivery_log.proofs.Logs.{since_origin-append, repair_queued, lossy_queued as lossy_drawn}
-use Rattle.delivery_log.proofs.Lists.{hand_numbers, written-append, jobs_captured, jobs_queued, jobs_marked, draws_stay, draws_queued, undrawn-captures, unwritten-captures, captured_there}
+use Rattle.delivery_log.proofs.Lists.{hand_numbers, written-append, jobs_captured, jobs_queued, jobs_marked, draws_stay, draws_queued, undrawn-captures, unwritten-captures, captured_there, later_on, later-captures}
 use Rattle.delivery_log.proofs.Seeing.{AllUnqueued, AllUncaptured, unqueued_all, all_numbers, all_parts, below_next, other_numbers, queueing_new, written_stay, waiting_stay, hands_stay, hands_relieve, OnlyAs, only_as, covering_only, covering_since, captures_quiet, captures_new, captures_after, after_relieves, captures_apart}
 use Rattle.delivery_log.proofs.Steps.{agrees_same, sequences_of}
 
@@ -125,6 +125,7 @@ pub agrees_capture : (next : ℕ) (log : List Entry) (plan : List Planned) (firs
 agrees_capture next log plan first w from event agrees = record {
   jobs = jobs_captured next log plan first w from agrees.jobs;
   draws = draws_stay log (captures first plan) (captured plan first w) w (undrawn-captures first plan) (unwritten-captures first plan) refl refl agrees.draws;
+  later = later_on [] log (captures first plan) agrees.later (later-captures log first plan);
   points = λ x y within. captured_at next log plan first w from event agrees x y within;
 }
 
@@ -230,6 +231,7 @@ module _ (next now : ℕ) (log : List Entry) (j : Job) (jobs : List Job) (w : Wi
   agrees_one = record {
     jobs = jobs_queued next log j jobs w.next_sequence left (record w { jobs = j ∷ jobs }) refl refl agrees.jobs;
     draws = draws_queued log j.number drawn left (record w { jobs = j ∷ jobs }) refl refl refl agrees.draws;
+    later = later_on [] log entry agrees.later (rw there refl);
     points = λ x y within. queued_at x y within;
   }
 
@@ -255,6 +257,7 @@ agrees_result : (next : ℕ) (log : List Entry) (k : ℕ) (w : Window) → Agree
 agrees_result next log k w agrees = record {
   jobs = jobs_marked next log k (record w { jobs = with_result w.jobs k }) w refl agrees.jobs;
   draws = record { waiting = agrees.draws.waiting; sequences = agrees.draws.sequences };
+  later = agrees.later;
   points = λ x y within. rw (hands-with_result x y log w.jobs k) (agrees.points x y within);
 }
 

@@ -8,4 +8,9 @@ pub mod Agreements
 pub mod TimeSteps
 pub mod Reading
 pub mod Turns
+pub mod Distances
+pub mod Situations
+pub mod Telling
 pub mod Examples
+pub mod Neighbours
+pub mod NeighboursOfRest

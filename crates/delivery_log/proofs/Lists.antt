@@ -1,8 +1,8 @@
 -- The parts of the agreement that speak of jobs and draws, over lists.
-use Rattle.std.proofs.Common.{◌≡◌, inl, inr, ℕ, ◌+◌, ◌≤◌, Bool, true, ◌||◌, List, [], ◌∷◌, ◌++◌, map, length, refl, sym, ap, ◌∙◌, subst, arith, append_assoc, append-nil}
+use Rattle.std.proofs.Common.{◌≡◌, inl, inr, ℕ, ◌+◌, ◌≤◌, Bool, true, false, ◌&&◌, ◌||◌, List, [], ◌∷◌, ◌++◌, map, length, refl, sym, ap, ◌∙◌, subst, arith, append_assoc, append-nil}
 use Rattle.std.specs.Prelude.{All, nat_eq}
 use Rattle.std.specs.List.{list_any}
-use Rattle.std.proofs.lemmas.Bool.{cases_Bool, eq-eqb}
+use Rattle.std.proofs.lemmas.Bool.{cases_Bool, and_parts, eq-eqb}
 use Rattle.std.proofs.lemmas.Bool.Decides.{nat_tests}
 use Rattle.std.proofs.lemmas.List.{map-append}
 use Rattle.std.proofs.lemmas.List.Elements.{All-push, All-weaker}
@@ -12,8 +12,8 @@ use Rattle.delivery_model.specs.Events.{Planned, jobs_of, region_taken, captured
 use Rattle.delivery_model.specs.Numbers.{Rise}
 use Rattle.delivery_model.proofs.Numberings.{rise_later, rise_append, rise_bound, rise_push, rise_jobs, draws-append, numbers-with_result, draw_numbers}
 use Rattle.delivery_log.specs.Log.{Entry, Fresh, Kept, Damaged, JobCaptured, DrawQueued, DrawWritten, captures}
-use Rattle.delivery_log.specs.Stale.{is_capture, queued_draws, written_draws}
-use Rattle.delivery_log.specs.Agreement.{Recorded, recorded, captured_jobs, queued_jobs, JobsAgree, DrawsAgree}
+use Rattle.delivery_log.specs.Stale.{is_capture, is_queueing, queued_draws, written_draws}
+use Rattle.delivery_log.specs.Agreement.{Recorded, recorded, captured_jobs, queued_jobs, is_later, are_later, JobsAgree, DrawsAgree}
 use Rattle.delivery_log.proofs.Logs.{any_entry-append}
 
 pub queued-append : (log more : List Entry) → queued_draws (log ++ more) ≡ queued_draws log ++ queued_draws more
@@ -198,3 +198,35 @@ draws_written log d packets v w was is next agree = record {
       (agree.waiting ∙ (rw was (sym (append_assoc (written_draws log) (d.sequence ∷ []) (draw_numbers packets)))));
   sequences = rw (queued-append log (DrawWritten d.sequence ∷ []), append-nil, next) agree.sequences;
 }
+
+-- what comes later
+pub later_on : (front log more : List Entry) → are_later front log ≡ true → are_later (front ++ log) more ≡ true → are_later front (log ++ more) ≡ true
+later_on front [] more was now = subst (λ (es : List Entry). are_later es more ≡ true) (append-nil front) now
+later_on front (e ∷ log) more was now =
+    let parts = and_parts (is_later front e) (are_later (front ++ e ∷ []) log) was in
+    rw (parts.0, later_on (front ++ e ∷ []) log more parts.1 (subst (λ (es : List Entry). are_later es more ≡ true) (sym (append_assoc front (e ∷ []) log)) now)) refl
+
+pub later-captures : (front : List Entry) (first : ℕ) (plan : List Planned) → are_later front (captures first plan) ≡ true
+later-captures front first [] = refl
+later-captures front first (p ∷ plan) = later-captures (front ++ JobCaptured first p.rect p.coding ∷ []) (first + 1) plan
+
+-- a draw that was queued stands in the log
+pub queued_there : (log : List Entry) (front rest : List ℕ) (s : ℕ) → queued_draws log ≡ front ++ s ∷ rest → list_any (is_queueing (λ k. true) s) log ≡ true
+queued_there log front rest s is = queues_as s log ∙ (ap (λ (ss : List ℕ). list_any (λ (i : ℕ). nat_eq i s) ss) is ∙ any_draw front)
+  where
+    queues_as : (s : ℕ) (log : List Entry) → list_any (is_queueing (λ k. true) s) log ≡ list_any (λ (i : ℕ). nat_eq i s) (queued_draws log)
+    queues_as s [] = refl
+    queues_as s (Fresh ∷ log) = queues_as s log
+    queues_as s (Kept w h ∷ log) = queues_as s log
+    queues_as s (Damaged r ∷ log) = queues_as s log
+    queues_as s (JobCaptured k r coding ∷ log) = queues_as s log
+    queues_as s (DrawQueued k i ∷ log) = rw (and_all (nat_eq i s)) (ap (λ (b : Bool). nat_eq i s || b) (queues_as s log))
+      where
+        and_all : (b : Bool) → (b && true) ≡ b
+        and_all true = refl
+        and_all false = refl
+    queues_as s (DrawWritten i ∷ log) = queues_as s log
+
+    any_draw : (front : List ℕ) → list_any (λ (i : ℕ). nat_eq i s) (front ++ s ∷ rest) ≡ true
+    any_draw [] = rw (eq-eqb s s refl) refl
+    any_draw (i ∷ front) = grind (arith, nat_tests, any_draw front)

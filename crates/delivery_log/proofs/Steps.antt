@@ -18,7 +18,7 @@ use Rattle.delivery_log.specs.Stale.{is_origin, is_capture, is_queueing, queued_
 use Rattle.delivery_log.specs.Traces.{written_at, waiting_at, hand_at, seen_at, PointAgrees}
 use Rattle.delivery_log.specs.Agreement.{captured_jobs, queued_jobs, Agrees}
 use Rattle.delivery_log.proofs.Traces.{agrees_origin, agrees_cancelled, agrees_written}
-use Rattle.delivery_log.proofs.Lists.{hand_numbers, written-append, jobs_stay, jobs_cancelled, draws_stay, draws_written}
+use Rattle.delivery_log.proofs.Lists.{hand_numbers, written-append, jobs_stay, jobs_cancelled, draws_stay, draws_written, later_on, queued_there}
 use Rattle.delivery_log.proofs.Seeing.{AllUnqueued, AllUncaptured, unqueued_all, all_numbers, uncaptured_all, written_stay, waiting_stay, hands_stay, written_none, waiting_none, hands_none, hands_before, hands_relieve, waiting_resized}
 
 abbrev pub sequences_of : List Packet → List ℕ
@@ -53,6 +53,7 @@ pub agrees_started : (next : ℕ) (desk : Grid) (now : ℕ) → Agrees next (Fre
 agrees_started next desk now = record {
   jobs = record { captured = omega arith; before = []; in_hand = refl; low = 0; queued = omega arith; unqueued = omega arith; were_captured = All-nil _ };
   draws = record { waiting = refl; sequences = omega arith };
+  later = refl;
   points = λ x y within. origin_at x y [] Fresh (started desk now) refl (has-points_within desk.wide desk.high (λ x y. true) x y within);
 }
 
@@ -62,6 +63,7 @@ pub agrees_same : (next : ℕ) (log : List Entry) (v w : Window) → v.desk ≡ 
 agrees_same next log v w desk packets jobs pending lossy sequence agrees = record {
   jobs = jobs_stay next log [] v w refl refl jobs agrees.jobs;
   draws = draws_stay log [] v w refl refl (rw packets refl) sequence agrees.draws;
+  later = later_on [] log [] agrees.later refl;
   points = λ x y within. stays_at x y log [] v w refl refl refl refl (rw packets refl) jobs (rw pending refl) (rw lossy refl) (agrees.points x y (rw desk at within));
 }
 
@@ -84,6 +86,7 @@ module _ (next : ℕ) (log : List Entry) (r : Rectangle) (now : ℕ) (v w : Wind
   agrees_damaged c same = record {
     jobs = jobs_stay next log (Damaged c ∷ []) (damaged r now v) w refl refl jobs agrees.jobs;
     draws = draws_stay log (Damaged c ∷ []) (damaged r now v) w refl refl (rw packets refl) sequence agrees.draws;
+    later = later_on [] log (Damaged c ∷ []) agrees.later refl;
     points = λ x y within. which x y (rw (← wide, ← high) within) (cases_Bool (is_in r x y));
   }
     where
@@ -96,6 +99,7 @@ module _ (next : ℕ) (log : List Entry) (r : Rectangle) (now : ℕ) (v w : Wind
   agrees_undamaged outside = record {
     jobs = jobs_stay next log [] (damaged r now v) w refl refl jobs agrees.jobs;
     draws = draws_stay log [] (damaged r now v) w refl refl (rw packets refl) sequence agrees.draws;
+    later = later_on [] log [] agrees.later refl;
     points = λ x y within. let inside : is_within w.desk.wide w.desk.high x y ≡ true = rw (← wide, ← high) within in damaged_at x y [] inside (outside x y inside) refl refl refl refl;
   }
 
@@ -122,6 +126,7 @@ pub agrees_given_back : (next : ℕ) (log : List Entry) (now : ℕ) (w : Window)
 agrees_given_back next log now w agrees = record {
   jobs = jobs_cancelled next log [] (given_back now w) w refl refl refl agrees.jobs;
   draws = draws_stay log [] (given_back now w) w refl refl refl refl agrees.draws;
+  later = later_on [] log [] agrees.later refl;
   points = λ x y within. rw (append-nil log, has-points_within w.desk.wide w.desk.high (λ x y. has w.pending x y || jobs_relieve w.jobs x y) x y within, ← hands_relieve x y log w.jobs)
       (agrees_cancelled _ _ (map (hand_at x y log) w.jobs) (has w.pending x y) (has w.lossy x y) (agrees.points x y within));
 }
@@ -138,6 +143,7 @@ pub agrees_resized : (next : ℕ) (log : List Entry) (w h now : ℕ) (old : Wind
 agrees_resized next log w h now old agrees = record {
   jobs = jobs_cancelled next log (Kept old.desk.wide old.desk.high ∷ []) (resized w h now old) old refl refl refl agrees.jobs;
   draws = draws_stay log (Kept old.desk.wide old.desk.high ∷ []) (resized w h now old) old refl refl (numbers-with_relief w h both old.packets) refl agrees.draws;
+  later = later_on [] log (Kept old.desk.wide old.desk.high ∷ []) agrees.later refl;
   points = λ x y within. which x y within (cases_Bool (is_within old.desk.wide old.desk.high x y));
 }
   where
@@ -170,6 +176,7 @@ agrees_unseen : (next : ℕ) (log : List Entry) (v w : Window) → v.desk ≡ w.
 agrees_unseen next log v w desk draws jobs pending lossy sequence agrees = record {
   jobs = jobs_stay next log [] v w refl refl jobs agrees.jobs;
   draws = draws_stay log [] v w refl refl (rw draws refl) sequence agrees.draws;
+  later = later_on [] log [] agrees.later refl;
   points = λ x y within. stays_at x y log [] v w refl refl refl refl (rw draws refl) jobs (rw pending refl) (rw lossy refl) (agrees.points x y (rw desk at within));
 }
 
@@ -181,6 +188,7 @@ agrees_front next log lossy_shows (WindowResized a b ∷ packets) w is agrees = 
 agrees_front next log lossy_shows (Draws d ∷ packets) w is agrees = record {
   jobs = jobs_stay next log (DrawWritten d.sequence ∷ []) v w refl refl refl agrees.jobs;
   draws = draws_written log d packets v w is refl refl agrees.draws;
+  later = later_on [] log (DrawWritten d.sequence ∷ []) agrees.later (rw (queued_there log (written_draws log) (sequences_of packets) d.sequence (agrees.draws.waiting ∙ (rw is refl))) refl);
   points = λ x y within. rw (
     written-append log (DrawWritten d.sequence ∷ []),
     map-append,

@@ -31,7 +31,7 @@ pub record StaysAs (v w : Window) : Type 0 where
 stays_refl : (w : Window) → StaysAs w w
 stays_refl w = record { desk = refl; pending = refl; mapped = refl }
 
-stays_trans : (u v w : Window) → StaysAs u v → StaysAs v w → StaysAs u w
+pub stays_trans : (u v w : Window) → StaysAs u v → StaysAs v w → StaysAs u w
 stays_trans u v w a b = record { desk = a.desk ∙ b.desk; pending = a.pending ∙ b.pending; mapped = a.mapped ∙ b.mapped }
 
 ready_stays : (now : ℕ) (jobs : List Job) (w : Window) → StaysAs (queue_ready now jobs w) w
@@ -42,22 +42,22 @@ ready_stays now (j ∷ jobs) w = which j.encoded (ready_stays now jobs (queued n
     which true rest = record { desk = rest.desk; pending = rest.pending; mapped = rest.mapped }
     which false rest = record { desk = refl; pending = refl; mapped = refl }
 
-filed_stays : (f : Filing) (k now : ℕ) (w : Window) → StaysAs (filed_as f k now w) w
+pub filed_stays : (f : Filing) (k now : ℕ) (w : Window) → StaysAs (filed_as f k now w) w
 filed_stays Late k now w = stays_refl w
 filed_stays Foreign k now w = stays_refl w
 filed_stays Filed k now w = ready_stays now (with_result w.jobs k) w
 
-file_all_stays : (now : ℕ) (results : List Result) (w : Window) → StaysAs (file_all now results w) w
+pub file_all_stays : (now : ℕ) (results : List Result) (w : Window) → StaysAs (file_all now results w) w
 file_all_stays now [] w = stays_refl w
 file_all_stays now (r ∷ results) w = stays_trans (file_all now results (filed r.number r.capture now w)) (filed r.number r.capture now w) w (file_all_stays now results (filed r.number r.capture now w)) (filed_stays (filing_of (capture_of w.jobs r.number) r.capture) r.number now w)
 
 -- writes leave jobs and lossy points as they are too
-record WritesAs (v w : Window) : Type 0 where
-  stays : StaysAs v w
-  jobs : v.jobs ≡ w.jobs
-  lossy : v.lossy ≡ w.lossy
+pub record WritesAs (v w : Window) : Type 0 where
+  pub stays : StaysAs v w
+  pub jobs : v.jobs ≡ w.jobs
+  pub lossy : v.lossy ≡ w.lossy
 
-front_writes : (lossy_shows : ℕ → ℕ) (packets : List Packet) (w : Window) → WritesAs (written_front lossy_shows packets w) w
+pub front_writes : (lossy_shows : ℕ → ℕ) (packets : List Packet) (w : Window) → WritesAs (written_front lossy_shows packets w) w
 front_writes lossy_shows [] w = record { stays = stays_refl w; jobs = refl; lossy = refl }
 front_writes lossy_shows (p ∷ packets) w = record { stays = record { desk = refl; pending = refl; mapped = refl }; jobs = refl; lossy = refl }
 
@@ -65,7 +65,7 @@ written_writes : (lossy_shows : ℕ → ℕ) (wholly : Bool) (w : Window) → Wr
 written_writes lossy_shows true w = front_writes lossy_shows w.packets w
 written_writes lossy_shows false w = record { stays = stays_refl w; jobs = refl; lossy = refl }
 
-write_all_writes : (lossy_shows : ℕ → ℕ) (writes : List Bool) (w : Window) → WritesAs (write_all lossy_shows writes w) w
+pub write_all_writes : (lossy_shows : ℕ → ℕ) (writes : List Bool) (w : Window) → WritesAs (write_all lossy_shows writes w) w
 write_all_writes lossy_shows [] w = record { stays = stays_refl w; jobs = refl; lossy = refl }
 write_all_writes lossy_shows (b ∷ writes) w =
     let first = written_writes lossy_shows b w in
@@ -189,7 +189,7 @@ covered_none w none empty = record {
 }
 
 -- what a capture answers where time, load, weight and number allow it
-allowed_where : (now weight first : ℕ) (w : Window) → earliest w ≤ now → load w ≡ 0 → weight < 33_554_432 → first < 2 ^ 62 → w.mapped ≡ true → is_clean w ≡ false → is_allowed (capture_answer now weight first w) ≡ true
+pub allowed_where : (now weight first : ℕ) (w : Window) → earliest w ≤ now → load w ≡ 0 → weight < 33_554_432 → first < 2 ^ 62 → w.mapped ≡ true → is_clean w ≡ false → is_allowed (capture_answer now weight first w) ≡ true
 allowed_where now weight first w due unloaded light numbers mapped unclean = rw (mapped, unclean, late, unloaded, bearable, left) refl
   where
     late : nat_lt now (earliest w) ≡ false
@@ -208,7 +208,7 @@ captured_stays : (b : Bool) (plan : List Planned) (first : ℕ) (w : Window) →
 captured_stays true plan first w = (refl, refl)
 captured_stays false plan first w = (refl, refl)
 
-pending_captured : (plan : List Planned) (first : ℕ) (w : Window) → is_empty (captured plan first w).pending ≡ true
+pub pending_captured : (plan : List Planned) (first : ℕ) (w : Window) → is_empty (captured plan first w).pending ≡ true
 pending_captured plan first w = none-is_empty w.desk.wide w.desk.high (λ x y. false) (λ x y within. refl)
 
 rest_three : (w : Window) → rest w ≤ 3

@@ -1,5 +1,5 @@
 -- The agreement of a window and its log.
-use Rattle.std.specs.Prelude.{ℕ, ◌≡◌, true, Option, Some, None, List, [], ◌∷◌, ◌++◌, map, All}
+use Rattle.std.specs.Prelude.{ℕ, ◌≡◌, Bool, true, ◌&&◌, Option, Some, None, List, [], ◌∷◌, ◌++◌, map, All}
 use Rattle.std.specs.List.{list_any}
 use Rattle.xp_base.specs.declared.coding.Coding.{Coding}
 use Rattle.xp_base.specs.Points.{Rectangle, is_within}
@@ -7,7 +7,7 @@ use Rattle.delivery_model.specs.Window.{Job, Draw, Window}
 use Rattle.delivery_model.specs.Invariant.{draws_of}
 use Rattle.delivery_model.specs.Numbers.{Rise}
 use Rattle.delivery_log.specs.Log.{Entry, Fresh, Kept, Damaged, JobCaptured, DrawQueued, DrawWritten}
-use Rattle.delivery_log.specs.Stale.{is_capture, queued_draws, written_draws}
+use Rattle.delivery_log.specs.Stale.{is_capture, is_queueing, queued_draws, written_draws}
 use Rattle.delivery_log.specs.Traces.{seen_at, PointAgrees}
 
 -- a job as the log has it
@@ -55,10 +55,25 @@ pub record DrawsAgree (log : List Entry) (w : Window) : Type 0 where
   pub waiting : queued_draws log ≡ written_draws log ++ map (λ (d : Draw). d.sequence) (draws_of w.packets)
   pub sequences : Rise 0 w.next_sequence (queued_draws log)
 
--- parts 1 and 2 over lists; parts 3 to 6 at each point of the window
+-- what an entry says of earlier ones stands among them: a job is queued after it was captured, a draw is written after it was queued
+abbrev pub is_later : List Entry → Entry → Bool
+is_later front Fresh = true
+is_later front (Kept w h) = true
+is_later front (Damaged r) = true
+is_later front (JobCaptured k r coding) = true
+is_later front (DrawQueued k s) = list_any (is_capture k) front
+is_later front (DrawWritten s) = list_any (is_queueing (λ k. true) s) front
+
+-- so it is for each of these entries, where others stand in front of them
+abbrev pub are_later : List Entry → List Entry → Bool
+are_later front [] = true
+are_later front (e ∷ log) = is_later front e && are_later (front ++ e ∷ []) log
+
+-- parts 1 and 2 over lists, with what comes later in both; parts 3 to 6 at each point of the window
 pub record Agrees (next : ℕ) (log : List Entry) (w : Window) : Type 0 where
   pub jobs : JobsAgree next log w
   pub draws : DrawsAgree log w
+  pub later : are_later [] log ≡ true
   pub points : (x y : ℕ) → is_within w.desk.wide w.desk.high x y ≡ true → PointAgrees (seen_at x y log w)
 
 abbrev pub AgreesWhereThere : ℕ → List Entry → Option Window → Type 0

@@ -1,19 +1,19 @@
 -- What is true of every log, as statements. Each is the contract of a function of `src/laws.rt`.
-use Rattle.std.specs.Prelude.{ℕ, ◌+◌, ◌-◌, ◌≡◌, ◌≤◌, Bool, true, false, ◌&&◌, ◌||◌, Option, Some, None, List, [], ◌∷◌, replicate, length}
+use Rattle.std.specs.Prelude.{ℕ, ◌+◌, ◌-◌, ◌≡◌, ◌≤◌, ◌<◌, ◌^◌, Bool, true, false, ◌&&◌, ◌||◌, Option, Some, None, List, [], ◌∷◌, replicate, length, All}
 use Rattle.xp_base.specs.Points.{is_within}
 use Rattle.delivery_model.specs.Grids.{has}
 use Rattle.delivery_model.specs.Window.{Window}
-use Rattle.delivery_model.specs.Events.{jobs_relieve, load, Event, step, run}
+use Rattle.delivery_model.specs.Events.{is_empty, Planned, captured, jobs_relieve, load, Event, step, run}
 use Rattle.delivery_model.specs.Plans.{IsEvent}
 use Rattle.delivery_model.specs.Numbers.{NumbersFrom, IsNumbered, next_after}
-use Rattle.delivery_model.specs.Refusals.{earliest}
+use Rattle.delivery_model.specs.Refusals.{is_clean, earliest, capture_answer, is_allowed}
 use Rattle.delivery_model.specs.Owed.{owes}
 use Rattle.delivery_model.specs.Laws.{KeptWhereThere}
 use Rattle.delivery_log.specs.Log.{Entry, log_after, log_of}
 use Rattle.delivery_log.specs.Stale.{is_stale, is_stale_queued}
 use Rattle.delivery_log.specs.Agreement.{Agrees, AgreesWhereThere}
 use Rattle.delivery_log.specs.Times.{IsTimed, TimedWhereThere, IsBy}
-use Rattle.delivery_log.specs.Rest.{Turn, Result, IsQuiet, turned, read, file_all, write_all, rest, rest_of, is_idle, AllAcknowledged, FrontWaits, HaveResults, CameNearer}
+use Rattle.delivery_log.specs.Rest.{Turn, Result, IsQuiet, captured_in, turned, read, file_all, write_all, rest, rest_of, is_idle, AllAcknowledged, FrontWaits, HaveResults, CameNearer, AtZero, IsLeast, IsLeastOf, IsPointwise, PointwiseWhereThere, turned_all, AreQuiet}
 
 -- for every log: where it agrees with the window before an event, it does after it, with the event's entries
 abbrev pub EventsKeepAgreement : Type 0
@@ -63,13 +63,59 @@ abbrev pub FilingEmpties : Type 0
 FilingEmpties = (next now : ℕ) (results : List Result) (w : Window) → IsNumbered next w → FrontWaits w.jobs → HaveResults results w.jobs
     → (file_all now results w).jobs ≡ []
 
+-- so in a turn, where each job that is in hand after the capture has its result
+abbrev pub ResultsEmpty : Type 0
+ResultsEmpty = (lossy_shows : ℕ → ℕ) (t : Turn) (w : Window) → 1 ≤ t.first → IsNumbered t.first w → FrontWaits w.jobs → HaveResults t.results (captured_in t (read t.read_at t.acknowledged w)).jobs
+    → (turned lossy_shows t w).jobs ≡ []
+
 -- once as many packets are written as wait, none waits
 abbrev pub WritingEmpties : Type 0
 WritingEmpties = (lossy_shows : ℕ → ℕ) (w : Window) → (write_all lossy_shows (replicate (length w.packets) true) w).packets ≡ []
 
--- a quiet turn brings a window one nearer to rest, or leaves it there; so it does a client
+-- a read leaves the distance from rest as it is
+abbrev pub ReadingKeepsRest : Type 0
+ReadingKeepsRest = (t : ℕ) (ks : List ℕ) (w : Window) → rest (read t ks w) ≡ rest w
+
+-- a capture leaves nothing pending
+abbrev pub CapturePendsNothing : Type 0
+CapturePendsNothing = (plan : List Planned) (first : ℕ) (w : Window) → is_empty (captured plan first w).pending ≡ true
+
+-- a mapped window that is not clean and has no load is captured, where that is due and weight and numbers allow it
+abbrev pub CaptureAllowed : Type 0
+CaptureAllowed = (now weight first : ℕ) (w : Window) → earliest w ≤ now → load w ≡ 0 → weight < 33_554_432 → first < 2 ^ 62 → w.mapped ≡ true → is_clean w ≡ false
+    → is_allowed (capture_answer now weight first w) ≡ true
+
+-- where filings leave no job and writes no packet, the distance is 2 or less, and 1 or less where nothing was pending before them
+abbrev pub EndsNearer : Type 0
+EndsNearer = (lossy_shows : ℕ → ℕ) (now : ℕ) (results : List Result) (writes : List Bool) (w : Window)
+    → (write_all lossy_shows writes (file_all now results w)).jobs ≡ [] → (write_all lossy_shows writes (file_all now results w)).packets ≡ []
+    → (rest (write_all lossy_shows writes (file_all now results w)) ≤ 2) × (is_empty w.pending ≡ true → rest (write_all lossy_shows writes (file_all now results w)) ≤ 1)
+
+-- a quiet turn brings a window one nearer to rest, or leaves it there
 abbrev pub QuietTurnsRest : Type 0
 QuietTurnsRest = (lossy_shows : ℕ → ℕ) (clock : ℕ) (t : Turn) (w : Window) → IsQuiet lossy_shows clock t w → rest (turned lossy_shows t w) ≤ rest w - 1
 
+-- where each window came one nearer, their client did; whether other packets waited before or not, none does afterwards
+abbrev pub NearerTogether : Type 0
+NearerTogether = (others : Bool) (before after : List Window) → CameNearer before after → rest_of false after ≤ rest_of others before - 1
+
+-- so a quiet turn of a client brings it one nearer, or leaves it at rest
 abbrev pub ClientsRest : Type 0
-ClientsRest = (others : Bool) (before after : List Window) → CameNearer before after → rest_of false after ≤ rest_of others before - 1
+ClientsRest = (lossy_shows : ℕ → ℕ) (clock : ℕ) (ts : List Turn) (others : Bool) (ws : List Window) → AreQuiet lossy_shows clock ts ws
+    → rest_of false (turned_all lossy_shows ts ws) ≤ rest_of others ws - 1
+
+-- and after three of them, with nothing between, nothing on its mapped windows is owed
+abbrev pub ThreeTurnsRepair : Type 0
+ThreeTurnsRepair = (lossy_shows : ℕ → ℕ) (first second third : ℕ) (ts us vs : List Turn) (ws : List Window) → AreQuiet lossy_shows first ts ws
+    → AreQuiet lossy_shows second us (turned_all lossy_shows ts ws) → AreQuiet lossy_shows third vs (turned_all lossy_shows us (turned_all lossy_shows ts ws))
+    → All AtZero (turned_all lossy_shows vs (turned_all lossy_shows us (turned_all lossy_shows ts ws)))
+
+-- the distance is the least whose row holds; and every event keeps what that needs
+abbrev pub RestIsLeast : Type 0
+RestIsLeast = (w : Window) → IsPointwise w → IsLeast w
+
+abbrev pub ClientsRestIsLeast : Type 0
+ClientsRestIsLeast = (others : Bool) (ws : List Window) → All IsPointwise ws → IsLeastOf others ws
+
+abbrev pub EventsKeepPointwise : Type 0
+EventsKeepPointwise = (lossy_shows : ℕ → ℕ) (o : Option Window) (e : Event) → PointwiseWhereThere o → PointwiseWhereThere (step lossy_shows o e)

@@ -1,12 +1,13 @@
 -- How far a client is from rest, and what a quiet turn does. This project's own.
-use Rattle.std.specs.Prelude.{ℕ, ◌+◌, ◌-◌, ◌≡◌, ◌≤◌, ◌<◌, ◌^◌, max, Bool, true, false, not, ◌&&◌, ◌||◌, List, [], ◌∷◌, nat_eq, if◌then◌else◌, All}
+use Rattle.std.specs.Prelude.{ℕ, ◌+◌, ◌-◌, ◌≡◌, ◌≤◌, ◌<◌, ◌↔◌, ◌^◌, max, Bool, true, false, not, ◌&&◌, ◌||◌, Option, Some, None, List, [], ◌∷◌, nat_eq, if◌then◌else◌, All}
 use Rattle.std.specs.List.{list_any}
+use Rattle.xp_base.specs.Points.{is_within}
 use Rattle.xp_base.specs.Captures.{Captured}
-use Rattle.delivery_model.specs.Grids.{points}
+use Rattle.delivery_model.specs.Grids.{points, has}
 use Rattle.delivery_model.specs.Window.{Job, Packet, NewWindow, WindowResized, Draws, Sent, Window}
 use Rattle.delivery_model.specs.Events.{Planned, is_empty, filed, written, acknowledged, same_capture}
 use Rattle.delivery_model.specs.Refusals.{is_allowed, capture_answer, captured_where}
-use Rattle.delivery_model.specs.Owed.{is_owed}
+use Rattle.delivery_model.specs.Owed.{is_owed, owes}
 use Rattle.delivery_model.specs.Plans.{IsCaptureOf}
 use Rattle.delivery_model.specs.Kept.{IsKept}
 use Rattle.delivery_model.specs.Numbers.{IsNumbered}
@@ -35,6 +36,36 @@ greatest_rest (w ∷ ws) = max (rest w) (greatest_rest ws)
 
 abbrev pub rest_of : Bool → List Window → ℕ
 rest_of others ws = if others then 3 else greatest_rest ws
+
+-- the rows of the table, as a reader believes them; the distance is the least whose row holds
+abbrev pub AtZero : Window → Type 0
+AtZero w = (is_idle w ≡ true) × (w.mapped ≡ true → (x y : ℕ) → owes (Some w) x y ≡ false)
+
+abbrev pub AtOne : Window → Type 0
+AtOne w = (is_idle w ≡ true) × (w.mapped ≡ true → (x y : ℕ) → is_within w.desk.wide w.desk.high x y ≡ true → has w.pending x y ≡ false)
+
+abbrev pub AtTwo : Window → Type 0
+AtTwo w = is_idle w ≡ true
+
+pub record IsLeast (w : Window) : Type 0 where
+  pub at_zero : (rest w ≤ 0) ↔ AtZero w
+  pub at_one : (rest w ≤ 1) ↔ AtOne w
+  pub at_two : (rest w ≤ 2) ↔ AtTwo w
+  pub at_three : rest w ≤ 3
+
+pub record IsLeastOf (others : Bool) (ws : List Window) : Type 0 where
+  pub at_zero : (rest_of others ws ≤ 0) ↔ ((others ≡ false) × All AtZero ws)
+  pub at_one : (rest_of others ws ≤ 1) ↔ ((others ≡ false) × All AtOne ws)
+  pub at_two : (rest_of others ws ≤ 2) ↔ ((others ≡ false) × All AtTwo ws)
+  pub at_three : rest_of others ws ≤ 3
+
+-- the pending points are a set of points of the window and have no mark beyond it, so the set is empty where no point is pending
+abbrev pub IsPointwise : Window → Type 0
+IsPointwise w = w.pending ≡ points w.desk.wide w.desk.high (has w.pending)
+
+abbrev pub PointwiseWhereThere : Option Window → Type 0
+PointwiseWhereThere None = Unit {0}
+PointwiseWhereThere (Some w) = IsPointwise w
 
 -- a read: these draws are acknowledged, with times that are not negative
 abbrev pub read : ℕ → List ℕ → Window → Window
@@ -113,3 +144,16 @@ CameNearer [] [] = Unit {0}
 CameNearer [] (v ∷ vs) = ⊥
 CameNearer (w ∷ ws) [] = ⊥
 CameNearer (w ∷ ws) (v ∷ vs) = (rest v ≤ rest w - 1) × CameNearer ws vs
+
+-- a turn of a client: one of each window, in their order
+abbrev pub turned_all : (ℕ → ℕ) → List Turn → List Window → List Window
+turned_all lossy_shows [] ws = []
+turned_all lossy_shows (t ∷ ts) [] = []
+turned_all lossy_shows (t ∷ ts) (w ∷ ws) = turned lossy_shows t w ∷ turned_all lossy_shows ts ws
+
+-- it is quiet where it is quiet for each window
+abbrev pub AreQuiet : (ℕ → ℕ) → ℕ → List Turn → List Window → Type 0
+AreQuiet lossy_shows clock [] [] = Unit {0}
+AreQuiet lossy_shows clock [] (w ∷ ws) = ⊥
+AreQuiet lossy_shows clock (t ∷ ts) [] = ⊥
+AreQuiet lossy_shows clock (t ∷ ts) (w ∷ ws) = IsQuiet lossy_shows clock t w × AreQuiet lossy_shows clock ts ws

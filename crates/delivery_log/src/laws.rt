@@ -1,7 +1,8 @@
 // What is true of every log of one window of one client.
 ghost use Rattle.delivery_log.specs.Laws.{EventsKeepAgreement, AgreementWaits, OwedIsStale, UnqueuedIsStale, RunsOweWhatIsStale};
-ghost use Rattle.delivery_log.specs.Laws.{EventsKeepTimes, TimesWait, DueAfterTick, ReadingUnloads, FilingEmpties, WritingEmpties};
-ghost use Rattle.delivery_log.specs.Laws.{QuietTurnsRest, ClientsRest};
+ghost use Rattle.delivery_log.specs.Laws.{EventsKeepTimes, TimesWait, DueAfterTick, ReadingUnloads, FilingEmpties, ResultsEmpty, WritingEmpties};
+ghost use Rattle.delivery_log.specs.Laws.{ReadingKeepsRest, CapturePendsNothing, CaptureAllowed, EndsNearer, QuietTurnsRest, NearerTogether};
+ghost use Rattle.delivery_log.specs.Laws.{ClientsRest, ThreeTurnsRepair, RestIsLeast, ClientsRestIsLeast, EventsKeepPointwise};
 
 /// For every log: where it agrees with the window before an event, it does after it, with the event's
 /// entries. A start begins a log that agrees.
@@ -33,13 +34,24 @@ pub fn every_event_keeps_the_times()
 {}
 
 /// What the parts of a quiet turn do: 500 milliseconds make damage and refresh due; a read of all
-/// acknowledgements takes the load of an idle window; results of all jobs leave none in hand; as many
-/// writes as there are packets leave none waiting.
+/// acknowledgements takes the load of an idle window; results of all jobs leave none in hand, those of a
+/// turn's own capture among them; as many writes as there are packets leave none waiting.
 pub fn parts_of_a_turn()
     ensures tick { DueAfterTick }
     ensures read { ReadingUnloads }
     ensures file { FilingEmpties }
+    ensures results { ResultsEmpty }
     ensures write { WritingEmpties }
+{}
+
+/// And what they do to the distance from rest: a read leaves it; a capture is allowed where the window has no
+/// load, and leaves nothing pending; once all is filed and written the distance is 2 or less, and 1 or less
+/// where nothing was pending.
+pub fn parts_of_a_turn_come_nearer()
+    ensures read { ReadingKeepsRest }
+    ensures allowed { CaptureAllowed }
+    ensures capture { CapturePendsNothing }
+    ensures end { EndsNearer }
 {}
 
 /// A quiet turn brings a window one nearer to rest, or leaves it there.
@@ -47,7 +59,17 @@ pub fn quiet_turns_rest()
     ensures { QuietTurnsRest }
 {}
 
-/// So it does a client with all its windows.
+/// So it does a client with all its windows; and after three such turns nothing on its mapped windows is owed.
 pub fn clients_rest()
-    ensures { ClientsRest }
+    ensures windows { NearerTogether }
+    ensures turn { ClientsRest }
+    ensures three { ThreeTurnsRepair }
+{}
+
+/// The distance from rest, of a window and of a client, is the least of the table whose row holds. Every event
+/// keeps what this needs of a window: that its pending points are a set of its points.
+pub fn rest_is_the_least_of_its_table()
+    ensures window { RestIsLeast }
+    ensures client { ClientsRestIsLeast }
+    ensures kept { EventsKeepPointwise }
 {}

@@ -6,5 +6,6 @@ mod laws;
 
 pub use laws::{
     agreement_waits, clients_rest, every_event_keeps_the_agreement, every_event_keeps_the_times,
-    owed_is_stale, parts_of_a_turn, quiet_turns_rest, runs_owe_what_is_stale,
+    owed_is_stale, parts_of_a_turn, parts_of_a_turn_come_nearer, quiet_turns_rest,
+    rest_is_the_least_of_its_table, runs_owe_what_is_stale,
 };
