@@ -1,4 +1,5 @@
-//! Tests of scripts: their lines, their faults, their limits, and scripts made of a number. Nothing stands on this crate.
+//! Tests of scripts: their lines, their faults, their limits, and scripts made of a number. Nothing stands
+//! on this crate.
 #![tactic(auto)]
 
 #[cfg(test)]

@@ -125,7 +125,7 @@ const ORDER: &[After] = &[
         "open 1 0 0 4096 4096",
         "script line 2: reused",
     ),
-    // the first line with a fault decides, though a later one comes first in the table, and lines that do nothing are counted
+    // the first line with a fault decides, and lines that do nothing are counted
     ("close 1\n", "frob", "script line 1: no-window"),
     (
         "open 1 0 0 4 3\nfill 1 4 0 1 1 000000\nfrob\n",

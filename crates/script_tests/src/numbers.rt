@@ -34,7 +34,7 @@ const NUMBERS: &[&str] = &[
     "send k 1 | send 0 max",
     "owed k 1 | owed 0 w",
     "wait -1 | wait 1.5",
-    // eleven digits, also where zeros stand first; a sign alone, or one that is no `-`; a colour of five digits, or of seven
+    // eleven digits; signs; colours of five digits, and of seven
     "close 00000000001 | close 10000000001",
     "move 1 -00000000001 0 | move 1 00000000000 0",
     "finish 10000000000",

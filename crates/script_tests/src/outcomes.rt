@@ -47,7 +47,7 @@ pub(crate) fn shown(alloc: Global, text: &[u8]) -> Result<String, Fail> {
     }
 }
 
-/// Whether each of these lines, with ` | ` between them, comes to that as the last line of a text, after these.
+/// Whether each of these lines, with ` | ` between them, comes to that after the lines before.
 pub(crate) fn check(
     rt: &impl Abort,
     alloc: Global,

@@ -1,4 +1,4 @@
-// Faults of a line after others: windows and clients that are not there, numbers that were used, rectangles that leave their window.
+// Faults of a line after others: windows, clients and numbers that it names, and its rectangles.
 use crate::outcomes::{After, check_all};
 use std::test::Fail;
 
