@@ -28,7 +28,7 @@ pub last_push : (lines : List Paint) (p : Paint) → last_desk (lines ++ p ∷ [
 unfolding last_desk
 last_push lines p = painted_by-append [] lines (p ∷ [])
 
-take-whole : (lines : List Paint) (count : ℕ) → length lines ≤ count → take count lines ≡ lines
+pub take-whole : (lines : List Paint) (count : ℕ) → length lines ≤ count → take count lines ≡ lines
 take-whole lines count whole = grind (arith, common_steps)
 
 pub desk_at_start_lem : DeskAtStart
@@ -39,12 +39,14 @@ pub desk_at_end_lem : DeskAtEnd
 unfolding desk_at last_desk
 desk_at_end_lem lines place past = ap (painted_by []) (take-whole lines place past)
 
+pub take-next : (lines : List Paint) (place : ℕ) (line : Paint) → slice_get lines place ≡ Some line → take (place + 1) lines ≡ take place lines ++ line ∷ []
+take-next lines place line here =
+    let within = slice_get_within lines place line here in
+    take_more lines place line within ∙ ap (λ l. take place lines ++ l ∷ []) (get_or_from_slice_get lines place line line here)
+
 pub desk_at_next_lem : DeskAtNext
 unfolding desk_at
-desk_at_next_lem lines place line here =
-    let within = slice_get_within lines place line here in
-    let more : take (place + 1) lines ≡ take place lines ++ line ∷ [] = take_more lines place line within ∙ ap (λ l. take place lines ++ l ∷ []) (get_or_from_slice_get lines place line line here) in
-    ap (painted_by []) more ∙ painted_by-append [] (take place lines) (line ∷ [])
+desk_at_next_lem lines place line here = ap (painted_by []) (take-next lines place line here) ∙ painted_by-append [] (take place lines) (line ∷ [])
 
 pub painted_lines_lem : PaintedLines
 painted_lines_lem = record {

@@ -1,5 +1,6 @@
 mod Openings
 mod Desks
+mod OpenedNumbers
 mod Scripts
 mod Texts
 mod Keeping

@@ -1,5 +1,5 @@
 // What the definitions come to, as facts that a proof gets by a call: each call does nothing.
-ghost use Rattle.paint_script.specs.Laws.{DeskAtStart, DeskAtNext, DeskAtEnd, PaintedLines, ValidDesks, ScriptPaints, ScriptsOfTexts};
+ghost use Rattle.paint_script.specs.Laws.{DeskAtStart, DeskAtNext, DeskAtEnd, PaintedLines, PaintNeeds, OpenedNumbers, ValidDesks, ScriptPaints, ScriptsOfTexts};
 
 /// No line has painted anything.
 pub fn desk_at_start()
@@ -19,6 +19,16 @@ pub fn desk_at_end()
 /// What each kind of line paints.
 pub fn painted_lines()
     ensures { PaintedLines }
+{}
+
+/// What each kind of line needs on the desktop that it meets.
+pub fn paint_needs()
+    ensures { PaintNeeds }
+{}
+
+/// Which numbers the first so many lines opened, and that no valid line opens one of them again.
+pub fn opened_numbers()
+    ensures { OpenedNumbers }
 {}
 
 /// After any number of valid lines there is a desktop, of at most 32 windows and 4,194,304 pixels.

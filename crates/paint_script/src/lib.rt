@@ -19,8 +19,8 @@ mod script;
 pub use fault::ScriptFault;
 pub use generation::generate;
 pub use laws::{
-    desk_at_end, desk_at_next, desk_at_start, painted_lines, script_paints, scripts_of_texts,
-    valid_desks,
+    desk_at_end, desk_at_next, desk_at_start, opened_numbers, paint_needs, painted_lines,
+    script_paints, scripts_of_texts, valid_desks,
 };
 pub use paints::Paints;
 pub use plan::first_plan_line;
