@@ -1,8 +1,7 @@
 -- What a client says.
-use Rattle.std.proofs.Common.{◌≡◌, ℕ, ℤ, pos, negsuc, Bool, true, false, List, [], ◌∷◌, map, cond, eqb, refl, sym, ap, ◌∙◌, subst}
+use Rattle.std.proofs.Common.{◌≡◌, ℕ, ℤ, pos, negsuc, Bool, true, false, List, [], ◌∷◌, cond, eqb, refl, sym, ap, subst}
 use Rattle.std.specs.Prelude.{nat_lt, ◌&&◌}
 use Rattle.xp_base.specs.Keyed.{keyed_change}
-use Rattle.window_model.specs.Desktop.{Window}
 use Rattle.bencode_values.specs.Grammar.{is_in_range}
 use Rattle.packet_kinds.specs.declared.from_client.FromClient.{FromClient}
 use Rattle.packet_kinds.specs.declared.from_client.FromClient.TheVariants as C
@@ -14,7 +13,7 @@ use Rattle.client_delivery.specs.Delivered.{IsTold}
 use Rattle.client_delivery.specs.Keeping.{QuietKeeps, AnswerKeeps}
 use Rattle.client_delivery.specs.Steps.{Mapping, Unmapping, Acknowledging, Refreshing, changes_source}
 use Rattle.attached_client.specs.Client.{plain_packet, puts_message, weight}
-use Rattle.attached_client.specs.Acting.{acted, answers_ping, at_window}
+use Rattle.attached_client.specs.Acting.{acted}
 use Rattle.attached_client.specs.Laws.{ActingKeeps}
 use Rattle.attached_client.proofs.Messages.{Writes, echo_carries}
 

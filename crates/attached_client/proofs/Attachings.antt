@@ -1,5 +1,5 @@
 -- A client is attached.
-use Rattle.std.proofs.Common.{◌≡◌, ℕ, ◌+◌, ◌≤◌, Bool, true, false, Some, None, List, [], ◌∷◌, map, length, refl, sym, ap, ◌∙◌, subst, arith}
+use Rattle.std.proofs.Common.{◌≡◌, ◌≤◌, Bool, true, false, Some, None, List, [], ◌∷◌, map, length, refl, ap, arith}
 use Rattle.std.specs.Prelude.{Ok, All, codes}
 use Rattle.std.specs.List.{AllByRecursion}
 use Rattle.std.proofs.lemmas.List.Elements.{All-head, All-tail}
@@ -8,7 +8,7 @@ use Rattle.bencode_values.specs.declared.value.Value.{Value}
 use Rattle.bencode_values.specs.declared.value.Value.TheVariants as V
 use Rattle.hello_caps.specs.Replies.{server_hello_value, server_pairs}
 use Rattle.packet_frames.specs.Written.{packet_bytes, filled, MayBeWritten}
-use Rattle.window_model.specs.Desktop.{Window, IsDesktop, IsWindow}
+use Rattle.window_model.specs.Desktop.{Window, IsWindow}
 use Rattle.packet_kinds.specs.declared.to_client.ToClient.{ToClient}
 use Rattle.packet_kinds.specs.declared.to_client.ToClient.TheVariants as T
 use Rattle.packet_kinds.specs.Fields.{HasFields}
@@ -17,8 +17,8 @@ use Rattle.packet_kinds.specs.ToShapes.{to_client}
 use Rattle.packet_kinds.specs.Written.{IsMessage}
 use Rattle.window_source.specs.Waiting.{Queued, Waiting, Carries, client_limit}
 use Rattle.client_delivery.specs.Delivered.{packets_of, messages_of}
-use Rattle.client_delivery.specs.Steps.{structure, announces, Attaches}
-use Rattle.attached_client.specs.Client.{plain_packet, hello_packet, attached_at}
+use Rattle.client_delivery.specs.Steps.{structure, announces}
+use Rattle.attached_client.specs.Client.{plain_packet, hello_packet}
 use Rattle.attached_client.specs.Laws.{AttachesSo}
 use Rattle.attached_client.proofs.Messages.{Writes, announcement_carries}
 

@@ -10,7 +10,6 @@ use Rattle.client_outbox.specs.Reliefs.{Emptied, ReliefsChange}
 use Rattle.rect_regions.specs.PointSets.{has}
 use Rattle.window_source.specs.Source.{SourceSeen, begun}
 use Rattle.window_source.specs.Waiting.{Queued}
-use Rattle.window_source.specs.Calls.{IsDamaged}
 use Rattle.client_delivery.specs.Attached.{source_key, find_source}
 use Rattle.attached_client.specs.declared.change.Change.{Change}
 use Rattle.attached_client.specs.declared.change.Change.TheVariants as C

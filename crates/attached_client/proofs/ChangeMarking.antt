@@ -1,5 +1,5 @@
 -- What a change does to the windows' marks.
-use Rattle.std.proofs.Common.{◌≡◌, ℕ, Bool, true, false, Some, None, List, [], ◌∷◌, ◌++◌, cond, eqb, refl, sym, ap, ◌∙◌}
+use Rattle.std.proofs.Common.{◌≡◌, ℕ, Bool, true, false, Some, None, [], ◌∷◌, ◌++◌, cond, eqb, refl, sym, ap, ◌∙◌}
 use Rattle.std.specs.Prelude.{Option, is_some, option_map}
 use Rattle.std.proofs.lemmas.Bool.{eqb-true}
 use Rattle.xp_base.specs.Points.{Rectangle}
@@ -12,7 +12,7 @@ use Rattle.client_delivery.specs.Attached.{source_key, find_source}
 use Rattle.attached_client.specs.declared.change.Change.{Change}
 use Rattle.attached_client.specs.declared.change.Change.TheVariants as C
 use Rattle.attached_client.specs.Client.{ClientSeen}
-use Rattle.attached_client.specs.Changes.{wid_of, ChangesWhere, ClientChanges, damaged_in}
+use Rattle.attached_client.specs.Changes.{wid_of, ChangesWhere, damaged_in}
 use Rattle.attached_client.specs.Laws.{mark_in, mark_on}
 use Rattle.attached_client.specs.ChangeLaws.{begun_mark, changed_mark, ChangeMarks}
 

@@ -1,5 +1,5 @@
 -- What a change does to the numbers of jobs and draws.
-use Rattle.std.proofs.Common.{◌≡◌, ℕ, ◌≤◌, false, Some, None, List, [], ◌∷◌, refl, sym, ap, ◌∙◌, subst}
+use Rattle.std.proofs.Common.{◌≡◌, ℕ, false, Some, None, List, [], ◌∷◌, refl, sym, ap, ◌∙◌, subst}
 use Rattle.std.specs.Prelude.{Option, nat_eq}
 use Rattle.std.specs.List.{AllByRecursion}
 use Rattle.xp_base.specs.KeyedLaws.{KeyedFinds}

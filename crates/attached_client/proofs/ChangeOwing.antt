@@ -1,5 +1,5 @@
 -- What a change makes owed.
-use Rattle.std.proofs.Common.{◌≡◌, ℕ, Bool, true, false, Some, None, List, refl, sym, ap, ◌∙◌, subst}
+use Rattle.std.proofs.Common.{◌≡◌, ℕ, Some, None, refl, ap, ◌∙◌}
 use Rattle.std.specs.Prelude.{Option}
 use Rattle.xp_base.specs.KeyedLaws.{KeyedFinds}
 use Rattle.window_model.specs.Desktop.{Window, find_window}

@@ -1,5 +1,5 @@
 -- A client's change as the steps of a client's deliveries have it.
-use Rattle.std.proofs.Common.{◌≡◌, ℕ, List, refl, ap, arith}
+use Rattle.std.proofs.Common.{◌≡◌, ℕ, refl, ap, arith}
 use Rattle.window_model.specs.Desktop.{fresh_window}
 use Rattle.window_model.specs.Geometry.{Geometry, IsGeometry}
 use Rattle.packet_kinds.specs.declared.to_client.ToClient.TheVariants as T

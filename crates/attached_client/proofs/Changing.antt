@@ -1,5 +1,5 @@
 -- A client's change beside the desktop's.
-use Rattle.std.proofs.Common.{◌≡◌, ℕ, ◌≤◌, ◌<◌, ◌^◌, ◌*◌, lit<, Bool, true, false, Some, None, List, [], ◌∷◌, cond, eqb, refl, sym, ap, ◌∙◌, subst, arith}
+use Rattle.std.proofs.Common.{◌≡◌, ℕ, ◌<◌, ◌^◌, ◌*◌, lit<, Bool, true, false, Some, None, List, [], ◌∷◌, cond, eqb, refl, sym, ap, ◌∙◌, subst, arith}
 use Rattle.std.specs.Prelude.{Option, All, is_some}
 use Rattle.std.proofs.lemmas.List.{length-replicate}
 use Rattle.std.proofs.lemmas.List.Elements.{All-head, All-tail, All-replicate}
@@ -7,21 +7,20 @@ use Rattle.xp_base.specs.Points.{Rectangle, LiesIn}
 use Rattle.xp_base.specs.KeyedLaws.{KeyedFinds}
 use Rattle.delivery_model.specs.Events.{damaged}
 use Rattle.window_model.specs.Drawing.{blank}
-use Rattle.window_model.specs.Desktop.{Window, IsWindow, IsDesktop, find_window, has_window, fresh_window, changed_window, opened, without_window, raised, moved_on}
+use Rattle.window_model.specs.Desktop.{Window, IsWindow, IsDesktop, find_window, fresh_window, changed_window, opened, without_window, raised, moved_on}
 use Rattle.window_model.specs.Geometry.{Geometry, IsGeometry}
 use Rattle.packet_kinds.specs.declared.to_client.ToClient.{ToClient}
 use Rattle.packet_kinds.specs.declared.to_client.ToClient.TheVariants as T
-use Rattle.packet_kinds.specs.Fields.{HasFields, IsNumber}
+use Rattle.packet_kinds.specs.Fields.{IsNumber}
 use Rattle.window_source.specs.Source.{SourceSeen}
-use Rattle.window_source.specs.Waiting.{Carries}
 use Rattle.client_delivery.specs.Attached.{AttachedSeen, find_source}
-use Rattle.client_delivery.specs.Delivered.{IsTold, IsDelivered, AreOfOneSize, concerns}
+use Rattle.client_delivery.specs.Delivered.{IsTold, AreOfOneSize}
 use Rattle.client_delivery.specs.Keeping.{IsPainted, PaintKeeps, OpenKeeps, CloseKeeps, MoveKeeps, RaiseKeeps}
-use Rattle.client_delivery.specs.Steps.{structure, changes_source, Opens, Closes, PutsAlone}
+use Rattle.client_delivery.specs.Steps.{changes_source, PutsAlone}
 use Rattle.attached_client.specs.declared.change.Change.{Change}
 use Rattle.attached_client.specs.declared.change.Change.TheVariants as C
-use Rattle.attached_client.specs.Client.{ClientSeen, plain_packet, announced_at}
-use Rattle.attached_client.specs.Changes.{wid_of, ChangesWhere, ClientChanges, Fits, FitsSource, Loses, lost_packet, moved_packet, raised_packet}
+use Rattle.attached_client.specs.Client.{ClientSeen}
+use Rattle.attached_client.specs.Changes.{wid_of, ChangesWhere, Loses, lost_packet}
 use Rattle.attached_client.specs.Desktops.{DeskChanges, NumbersChange, SameNumbers}
 use Rattle.attached_client.specs.ChangeLaws.{ChangeKeeps, ChangeFits, ChangeStays, SameClient}
 use Rattle.attached_client.proofs.Messages.{Writes}

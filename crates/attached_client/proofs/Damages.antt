@@ -1,6 +1,5 @@
 -- What is pending of a window, put in.
-use Rattle.std.proofs.Common.{◌≡◌, ℕ, Some, None, List, refl, sym, ap, ◌∙◌, subst}
-use Rattle.std.specs.Prelude.{Option}
+use Rattle.std.proofs.Common.{◌≡◌, ℕ, Some, None, List, sym, ◌∙◌, subst}
 use Rattle.xp_base.specs.Points.{Rectangle}
 use Rattle.rect_regions.specs.PointSets.{has}
 use Rattle.window_source.specs.Source.{SourceSeen}

@@ -1,13 +1,11 @@
 -- A message, by what became of the window's source.
-use Rattle.std.proofs.Common.{◌≡◌, ◌≢◌, ◌↔◌, ℕ, ℤ, Bool, true, false, not, None, Some, refl, sym, ap, ◌∙◌, subst}
+use Rattle.std.proofs.Common.{◌≡◌, ◌≢◌, ◌↔◌, ℕ, ℤ, Bool, true, false, not, None, Some, refl, sym, ap, ◌∙◌}
 use Rattle.std.specs.Prelude.{Option, slice_set, is_none}
 use Rattle.xp_base.specs.Points.{Rectangle}
 use Rattle.ack_tracker.specs.declared.ack.Ack.{Ack}
 use Rattle.ack_tracker.specs.declared.ack.Ack.TheVariants as A
 use Rattle.delivery_model.specs.Window.{Window}
 use Rattle.packet_kinds.specs.declared.from_client.FromClient.{FromClient}
-use Rattle.ack_tracker.specs.Unacknowledged.{rect_at}
-use Rattle.xp_base.specs.KeyedLaws.{KeyedPlaces, KeyedKeeps}
 use Rattle.window_source.specs.Source.{SourceSeen}
 use Rattle.client_delivery.specs.Attached.{AttachedSeen}
 use Rattle.client_delivery.specs.Steps.{changes_source}

@@ -1,6 +1,6 @@
 -- What paint lines are to a client, computed: it has window 7, 2 by 1 pixels, and a draw of its left pixel waits.
-use Rattle.std.proofs.Common.{◌≡◌, ℕ, Some, None, List, [], ◌∷◌, refl}
-use Rattle.std.specs.Prelude.{pos, false, true}
+use Rattle.std.proofs.Common.{◌≡◌, Some, None, List, [], ◌∷◌, refl}
+use Rattle.std.specs.Prelude.{pos, false}
 use Rattle.xp_base.specs.Points.{Rectangle}
 use Rattle.xp_base.specs.declared.coding.Coding.TheVariants as K
 use Rattle.hello_caps.specs.declared.caps.Caps.{Caps}

@@ -1,5 +1,5 @@
 -- What a message does to the windows' marks, and to what is owed.
-use Rattle.std.proofs.Common.{◌≡◌, ℕ, ℤ, pos, negsuc, Bool, true, false, Some, None, List, cond, eqb, refl, sym, ap, ◌∙◌, subst, arith}
+use Rattle.std.proofs.Common.{◌≡◌, ℕ, ℤ, pos, negsuc, Bool, true, false, Some, None, List, cond, eqb, refl, sym, ap, ◌∙◌, arith}
 use Rattle.std.specs.Prelude.{Option, nat_lt, ◌&&◌, ◌||◌, option_map}
 use Rattle.std.proofs.lemmas.Bool.Decides.{nat_tests}
 use Rattle.xp_base.specs.KeyedLaws.{KeyedFinds}
@@ -7,19 +7,19 @@ use Rattle.bencode_values.specs.Grammar.{is_in_range}
 use Rattle.packet_kinds.specs.declared.from_client.FromClient.{FromClient}
 use Rattle.packet_kinds.specs.declared.from_client.FromClient.TheVariants as C
 use Rattle.packet_kinds.specs.declared.to_client.ToClient.TheVariants as T
-use Rattle.xp_base.specs.Points.{Rectangle, whole}
+use Rattle.xp_base.specs.Points.{Rectangle}
 use Rattle.delivery_model.specs.Window.{Window}
-use Rattle.delivery_model.specs.Events.{unmapped, acknowledged, acknowledged_as, rect_sent, damaged}
+use Rattle.delivery_model.specs.Events.{unmapped, acknowledged, acknowledged_as, rect_sent}
 use Rattle.window_source.specs.Source.{SourceSeen, alone, after}
 use Rattle.window_source.specs.Calls.{acknowledged_at, is_negative}
-use Rattle.client_talk.specs.Marks.{mark_after, names}
+use Rattle.client_talk.specs.Marks.{mark_after}
 use Rattle.client_delivery.specs.Attached.{AttachedSeen, source_key, find_source}
 use Rattle.client_delivery.specs.Owed.{owes}
-use Rattle.client_delivery.specs.Owing.{QuietOwes, PutOwes, quiet_owes}
+use Rattle.client_delivery.specs.Owing.{QuietOwes, PutOwes}
 use Rattle.client_delivery.specs.Steps.{quiet, Mapping, Unmapping, Acknowledging, Refreshing, changes_source}
 use Rattle.attached_client.specs.Client.{plain_packet, puts_message, weight}
 use Rattle.attached_client.specs.Acting.{acted}
-use Rattle.attached_client.specs.Laws.{mark_in, mark_on, ActingMarks, ActingOwes, said_owes}
+use Rattle.attached_client.specs.Laws.{mark_in, ActingMarks, ActingOwes, said_owes}
 use Rattle.attached_client.proofs.Actings.{unchanged}
 use Rattle.attached_client.proofs.Messages.{Writes, echo_carries}
 

@@ -1,9 +1,7 @@
 -- Packets of messages that are no draws.
-use Rattle.std.proofs.Common.{◌≡◌, ℕ, ◌≤◌, ◌<◌, ◌^◌, ℤ, Some, None, List, [], ◌∷◌, map, length, refl, sym, ap, ◌∙◌, subst, arith}
-use Rattle.std.specs.Prelude.{Ok, true}
-use Rattle.std.specs.List.{AllByRecursion}
+use Rattle.std.proofs.Common.{◌≡◌, ℕ, ◌≤◌, ◌<◌, ◌^◌, ℤ, Some, refl, arith}
+use Rattle.std.specs.Prelude.{Ok}
 use Rattle.bencode_values.specs.declared.value.Value.{Value}
-use Rattle.bencode_values.specs.Grammar.{spelled}
 use Rattle.packet_frames.specs.Written.{filled, MayBeWritten, IsWithin}
 use Rattle.window_model.specs.Desktop.{Window, IsWindow}
 use Rattle.window_model.specs.Geometry.{Geometry, IsGeometry, geometry_of}
@@ -13,7 +11,7 @@ use Rattle.packet_kinds.specs.Fields.{HasFields, IsPlain, IsInteger, drawn_size}
 use Rattle.packet_kinds.specs.ToClients.{to_value, to_chunk}
 use Rattle.packet_kinds.specs.ToShapes.{to_client}
 use Rattle.packet_kinds.specs.Written.{message_bytes, IsMessage}
-use Rattle.window_source.specs.Waiting.{Waiting, Carries, client_limit}
+use Rattle.window_source.specs.Waiting.{Carries, client_limit}
 use Rattle.client_delivery.specs.Steps.{structure, announces}
 use Rattle.attached_client.specs.Client.{plain_packet, announced_at}
 

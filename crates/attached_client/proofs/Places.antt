@@ -1,6 +1,6 @@
 -- What is done at the place of a window's source.
 use Rattle.std.proofs.Common.{◌≡◌, ℕ, ℤ, pos, negsuc, ◌<◌, ◌+◌, Bool, true, false, not, Some, None, List, [], ◌∷◌, length, cond, eqb, ltb, suc, refl, sym, ap, ◌∙◌, subst, arith}
-use Rattle.std.specs.Prelude.{Option, is_some, is_none, position, slice_get, slice_set, slice_index_or, ◌==◌}
+use Rattle.std.specs.Prelude.{Option, is_some, is_none, position, slice_set, slice_index_or, ◌==◌}
 use Rattle.std.specs.List.{position_or_len}
 use Rattle.std.proofs.Math.Path.{fun_ext}
 use Rattle.std.proofs.lemmas.Bool.Decides.{nat_tests}
@@ -13,7 +13,6 @@ use Rattle.window_source.specs.Source.{SourceSeen, after}
 use Rattle.client_talk.specs.Marks.{names}
 use Rattle.client_delivery.specs.Attached.{AttachedSeen, source_key, find_source}
 use Rattle.client_delivery.specs.Steps.{changes_source}
-use Rattle.attached_client.specs.Client.{ClientSeen}
 use Rattle.attached_client.specs.Acting.{at_window, has_source, is_stray_in, place_named}
 use Rattle.attached_client.proofs.Marking.{same_test}
 

@@ -3,7 +3,6 @@ use Rattle.std.specs.Prelude.{ℕ, ℤ, pos, negsuc, ◌≡◌, ◌==◌, Bool, 
 use Rattle.xp_base.specs.declared.memory.NoMemory.{NoMemory}
 use Rattle.bencode_values.specs.Grammar.{is_in_range}
 use Rattle.window_model.specs.Desktop.{Window}
-use Rattle.delivery_model.specs.Window.{Sent}
 use Rattle.ack_tracker.specs.Unacknowledged.{rect_at}
 use Rattle.packet_kinds.specs.declared.from_client.FromClient.{FromClient}
 use Rattle.packet_kinds.specs.declared.from_client.FromClient.TheVariants as C

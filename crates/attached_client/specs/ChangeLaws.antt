@@ -1,5 +1,5 @@
 -- What follows of a client's change beside the desktop's.
-use Rattle.std.specs.Prelude.{ℕ, ◌≡◌, ◌≤◌, ◌==◌, ◌&&◌, ◌||◌, not, if◌then◌else◌, Bool, true, false, Option, Some, None, List}
+use Rattle.std.specs.Prelude.{ℕ, ◌≡◌, ◌≤◌, ◌==◌, ◌&&◌, ◌||◌, not, if◌then◌else◌, Bool, false, Option, Some, None, List}
 use Rattle.xp_base.specs.Points.{is_in, is_within}
 use Rattle.window_model.specs.Desktop.{Window, IsDesktop}
 use Rattle.client_delivery.specs.Attached.{AttachedSeen}

@@ -124,6 +124,10 @@ pub record IsPendingIn (k : ℕ) (r : Rectangle) (c : ClientSeen) (pending : Lis
   pub found : find_source c.seen.sources k ≡ Some source
   pub damage : IsDamaged has source r pending
 
+-- it became what is pending of the client's window
+abbrev pub Pends : ℕ → List Rectangle → ℕ → ClientSeen → ClientSeen → Type 0
+Pends k pending now c c' = (r : Rectangle) → IsPendingIn k r c pending → c' ≡ damaged_in k r now c
+
 -- it was made of this client as it stands, and there is room for a window and a packet more
 pub record IsPrepared (change : Change) (now : ℕ) (a : Attachment) (p : Prepared) : Type 0 where
   pub room : 1 ≤ a.room

@@ -9,7 +9,7 @@ use Rattle.window_model.specs.Geometry.{Geometry}
 use Rattle.packet_kinds.specs.declared.to_client.ToClient.{ToClient}
 use Rattle.packet_kinds.specs.declared.to_client.ToClient.TheVariants as T
 use Rattle.packet_kinds.specs.Written.{message_bytes}
-use Rattle.client_outbox.specs.Outgoing.{Outgoing, other_packet, with_packet, unwritten}
+use Rattle.client_outbox.specs.Outgoing.{other_packet, with_packet, unwritten}
 use Rattle.window_source.specs.Source.{SourceSeen, job_pixels}
 use Rattle.window_source.specs.Waiting.{Queued}
 use Rattle.client_delivery.specs.Attached.{AttachedSeen, started_source}

@@ -1,5 +1,5 @@
 -- What a change, as a client meets it, is to the desktop, and to the numbers of the windows that were opened so far.
-use Rattle.std.specs.Prelude.{ℕ, ◌≡◌, Bool, true, false, Some, List}
+use Rattle.std.specs.Prelude.{ℕ, ◌≡◌, Bool, false, Some, List}
 use Rattle.xp_base.specs.Points.{Rectangle, LiesIn}
 use Rattle.window_model.specs.Desktop.{Window, find_window, has_window, changed_window, opened, without_window, raised, moved_on}
 use Rattle.window_model.specs.Geometry.{Geometry, IsGeometry}

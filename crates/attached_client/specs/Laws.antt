@@ -1,5 +1,5 @@
 -- What follows of what a client says.
-use Rattle.std.specs.Prelude.{ℕ, ◌≡◌, ◌==◌, ◌&&◌, ◌||◌, Bool, false, Option, Some, None, List, []}
+use Rattle.std.specs.Prelude.{ℕ, ◌≡◌, ◌==◌, ◌&&◌, ◌||◌, Bool, false, Option, Some, None, List}
 use Rattle.window_model.specs.Desktop.{Window, IsDesktop}
 use Rattle.hello_caps.specs.declared.caps.Caps.{Caps}
 use Rattle.packet_kinds.specs.declared.from_client.FromClient.{FromClient}

@@ -2,7 +2,7 @@
 ghost use Rattle.std.specs.Prelude.{◌≡◌, ◌≤◌, None};
 ghost use Rattle.xp_base.specs.Points.{Rectangle};
 ghost use Rattle.client_delivery.specs.Attached.{find_source};
-ghost use Rattle.attached_client.specs.Changes.{ClientChanges, IsPrepared, IsPendingIn, Loses, with_window, with_message, damaged_in};
+ghost use Rattle.attached_client.specs.Changes.{ClientChanges, IsPrepared, IsPendingIn, Pends, Loses, with_window, with_message};
 
 use crate::change::{Change, Prepared};
 use crate::client::{Attached, place_of_window, put_reserved, remove_source};
@@ -59,7 +59,7 @@ impl Attached {
     /// This is pending of a window.
     fn damage(&mut self, wid: Wid, pending: Region, now: u64)
         requires { (r : Rectangle) × IsPendingIn wid r self.old.client pending }
-        ensures { (r : Rectangle) → IsPendingIn wid r self.old.client pending → self.new.client ≡ damaged_in wid r now self.old.client }
+        ensures { Pends wid pending now self.old.client self.new.client }
     {
         keyed_places::<WindowSource<Region>>();
         keyed_keeps::<WindowSource<Region>>();

@@ -1,4 +1,4 @@
-// What follows of a client's change beside the desktop's. Each law makes the calls of the laws that it stands on.
+// What follows of a client's change beside the desktop's. Each law makes the calls of those that it stands on.
 ghost use Rattle.attached_client.specs.ChangeLaws.{ChangeKeeps, ChangeFits, ChangeStays, ChangeMarks, ChangeOwes, ChangeNumbers};
 
 use client_delivery::{
@@ -14,8 +14,8 @@ use window_model::Win;
 use window_source::WindowSource;
 use xp_base::keyed_finds;
 
-/// Beside the desktop after a paint line each window of the client is the model's, if so it was before it. What the change
-/// needs is there, and the client is the same.
+/// Beside the desktop after a paint line each window of the client is the model's, if so it was before it. What the
+/// change needs is there, and the client is the same.
 pub fn a_change_keeps_a_client()
     ensures told { ChangeKeeps }
     ensures fits { ChangeFits }

@@ -13,7 +13,8 @@ use window_source::WindowSource;
 use xp_base::{Conn, NoMemory, Wid, keyed_places};
 
 impl Attached {
-    /// Makes what a change at this moment, in milliseconds, needs of the client, and room for a window and a packet more.
+    /// Makes what a change at this moment, in milliseconds, needs of the client, and room for a window and a packet
+    /// more.
     pub fn preparing(&mut self, change: Change, now: u64) -> Result<Prepared, NoMemory>
         requires { Fits change self.old.client.seen }
         ensures same { self.new.client ≡ self.old.client }

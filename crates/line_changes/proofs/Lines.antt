@@ -1,12 +1,12 @@
 -- What a line does to the desktop.
-use Rattle.std.proofs.Common.{◌≡◌, ℕ, ◌*◌, ◌^◌, ◌≤◌, ◌<◌, Bool, true, false, Some, None, List, [], ◌∷◌, cond, eqb, length, refl, sym, ap, ◌∙◌, subst, arith}
+use Rattle.std.proofs.Common.{◌≡◌, ℕ, ◌*◌, ◌^◌, ◌≤◌, ◌<◌, Bool, true, false, Some, None, List, [], ◌∷◌, cond, eqb, length, refl, sym, subst, arith}
 use Rattle.std.specs.Prelude.{Option, IsSomeAnd, All, is_some}
 use Rattle.std.proofs.lemmas.List.Elements.{All-head, All-tail}
 use Rattle.xp_base.specs.Points.{Rectangle, IsRectangle, LiesIn, area}
 use Rattle.xp_base.specs.KeyedLaws.{KeyedFinds}
 use Rattle.window_model.specs.Drawing.{cropped, put_at}
 use Rattle.window_model.specs.Generator.{noise}
-use Rattle.window_model.specs.Desktop.{Window, IsWindow, IsDesktop, find_window, has_window, changed_window, filled_window, placed_window}
+use Rattle.window_model.specs.Desktop.{Window, IsWindow, IsDesktop, find_window, changed_window, filled_window, placed_window}
 use Rattle.window_model.specs.Laws.{FilledShows, PlacedShows, DrawnSizes}
 use Rattle.script_lines.specs.declared.paint.Paint.{Paint}
 use Rattle.script_lines.specs.declared.paint.Paint.TheVariants.{Open, Close, Fill, Copy, Noise, Resize, Move, Raise}

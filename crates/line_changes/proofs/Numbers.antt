@@ -7,7 +7,6 @@ use Rattle.std.proofs.lemmas.List.Folds.{list_any-append}
 use Rattle.window_model.specs.Desktop.{Window, find_window}
 use Rattle.script_lines.specs.declared.paint.Paint.{Paint}
 use Rattle.script_lines.specs.declared.paint.Paint.TheVariants.{Open, Close, Fill, Copy, Noise, Resize, Move, Raise}
-use Rattle.paint_script.specs.Painting.{rectangle}
 use Rattle.paint_script.specs.Validity.{opens, has_opened}
 use Rattle.attached_client.specs.declared.change.Change.{Change}
 use Rattle.attached_client.specs.declared.change.Change.TheVariants as C

@@ -1,5 +1,5 @@
 -- A window's pixels by point, as desktops and as deliveries have them.
-use Rattle.std.proofs.Common.{◌≡◌, ℕ, ◌*◌, ◌<◌, Bool, true, false, Some, None, List, get_or, length, refl, sym, ap, ◌∙◌, arith}
+use Rattle.std.proofs.Common.{◌≡◌, ℕ, ◌*◌, ◌<◌, true, Some, None, List, get_or, length, refl, sym, ap, ◌∙◌, arith}
 use Rattle.std.specs.Prelude.{slice_get}
 use Rattle.std.proofs.lemmas.Bool.{cond-true, cond-false}
 use Rattle.std.proofs.lemmas.Bool.Decides.{nat_tests}
@@ -11,7 +11,6 @@ use Rattle.window_model.specs.Desktop.{Window, filled_window, placed_window}
 use Rattle.window_model.specs.Drawing.{filled, placed}
 use Rattle.window_model.specs.Laws.{FilledShows, PlacedShows, DrawnSizes}
 use Rattle.delivery_model.specs.Grids.{Grid, number}
-use Rattle.client_delivery.specs.Attached.{grid_of}
 use Rattle.client_delivery.specs.Keeping.{IsPainted}
 
 some_same : (x y : ℕ) → Some x ≡ Some y → x ≡ y

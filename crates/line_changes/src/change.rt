@@ -11,8 +11,8 @@ use script_lines::Paint;
 use window_model::{Desk, Geometry};
 use xp_base::{Rect, Wid};
 
-/// What the line is to a client, on the desktop that it meets. A fill, a copy and noise are the rectangle whose pixels they
-/// change: that of a copy has its target's corner. The change of a `resize` is to come.
+/// What the line is to a client, on the desktop that it meets. A fill, a copy and noise are the rectangle whose pixels
+/// they change: that of a copy has its target's corner. The change of a `resize` is to come.
 pub fn change_of(line: &Paint, desk: &Desk) -> Change
     requires valid { IsPaintOn desk.now line.now }
     requires other { resizes line.now ≡ false }

@@ -1,8 +1,7 @@
 // What a line does to the desktop and to the numbers opened so far, as a client meets it.
 ghost use Rattle.line_changes.specs.Laws.{LineChanges, LineOpens};
 
-use delivery_model::grids_are_their_numbers;
-use window_model::{Win, copied_shows, drawn_sizes, filled_shows, placed_shows};
+use window_model::{Win, drawn_sizes, filled_shows, placed_shows};
 use xp_base::keyed_finds;
 
 /// The desktop after the line is that before it with the line's change.

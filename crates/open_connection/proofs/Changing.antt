@@ -1,5 +1,5 @@
 -- What a change keeps of a connection.
-use Rattle.std.proofs.Common.{◌≡◌, ℕ, Bool, Some, None, List, refl, sym, ap, ◌∙◌, subst}
+use Rattle.std.proofs.Common.{◌≡◌, ℕ, Some, None, refl, sym, ap, ◌∙◌, subst}
 use Rattle.std.specs.Prelude.{Option}
 use Rattle.std.specs.Option.{option_map}
 use Rattle.packet_frames.specs.Following.{Framing}

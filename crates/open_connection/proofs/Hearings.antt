@@ -1,12 +1,12 @@
 -- The packets of one read, one after another.
 use Rattle.std.proofs.Common.{◌≡◌, ℕ, ◌+◌, min, Bool, true, false, Some, None, List, [], ◌∷◌, ◌++◌, cond, refl, sym, ap, ◌∙◌, subst, arith}
-use Rattle.std.specs.Prelude.{Option, Ok, Err}
+use Rattle.std.specs.Prelude.{Option}
 use Rattle.std.proofs.lemmas.Bool.Decides.{nat_tests}
 use Rattle.std.proofs.lemmas.List.{append-nil, append_assoc}
 use Rattle.xp_base.specs.Counts.{greatest}
 use Rattle.bencode_values.specs.declared.value.Value.{Value}
 use Rattle.packet_frames.specs.Stream.{Packet, Fault, Stream}
-use Rattle.packet_frames.specs.Following.{Framing, left_of, behind, Gives, KeepsFault}
+use Rattle.packet_frames.specs.Following.{Framing, left_of, behind, Gives}
 use Rattle.packet_frames.specs.declared.next.Next.TheVariants as N
 use Rattle.client_talk.specs.Handling.{Acts, handled, stopped}
 use Rattle.attached_client.specs.Client.{ClientSeen}

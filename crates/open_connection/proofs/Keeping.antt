@@ -1,5 +1,5 @@
 -- What each packet keeps, all of them keep.
-use Rattle.std.proofs.Common.{◌≡◌, ℕ, ◌+◌, Bool, true, false, Some, None, List, [], ◌∷◌, cond, refl, sym, ap, ◌∙◌, subst}
+use Rattle.std.proofs.Common.{ℕ, ◌+◌, Bool, true, false, Some, None, List, [], ◌∷◌, cond, refl, sym, subst}
 use Rattle.std.specs.Prelude.{Option, Result, Ok, Err}
 use Rattle.packet_frames.specs.Stream.{Packet, Fault}
 use Rattle.hello_caps.specs.Capabilities.{hello_of}
@@ -7,10 +7,9 @@ use Rattle.hello_caps.specs.declared.caps.Caps.{Caps}
 use Rattle.hello_caps.specs.declared.caps.HelloFault.{HelloFault}
 use Rattle.packet_kinds.specs.FromShapes.{from_client}
 use Rattle.packet_kinds.specs.declared.from_client.FromClient.{FromClient}
-use Rattle.window_model.specs.Desktop.{Window, IsDesktop}
 use Rattle.client_talk.specs.Talked.{is_leaving}
-use Rattle.client_talk.specs.Handling.{Acts, Outcome, handled, stopped, after_hello, after_said, after_message, after_packet}
-use Rattle.client_delivery.specs.Keeping.{AttachTells, HoldsDesk}
+use Rattle.client_talk.specs.Handling.{Acts, handled, after_hello, after_said, after_message}
+use Rattle.client_delivery.specs.Keeping.{AttachTells}
 use Rattle.client_delivery.specs.Delivered.{IsTold}
 use Rattle.attached_client.specs.Client.{ClientSeen, attached_at}
 use Rattle.attached_client.specs.Acting.{acts}

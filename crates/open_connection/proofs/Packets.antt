@@ -1,5 +1,5 @@
 -- What one packet comes to.
-use Rattle.std.proofs.Common.{◌≡◌, ℕ, ◌+◌, Bool, true, false, Some, None, List, [], ◌∷◌, cond, refl, ap, ◌∙◌}
+use Rattle.std.proofs.Common.{◌≡◌, ℕ, ◌+◌, true, false, Some, None, List, ◌∷◌, cond, ap, ◌∙◌}
 use Rattle.std.specs.Prelude.{Option, Result, Ok, Err}
 use Rattle.bencode_values.specs.declared.value.Value.{Value}
 use Rattle.packet_frames.specs.Stream.{Packet, Fault}

@@ -7,7 +7,7 @@ use Rattle.packet_frames.specs.Following.{Framing, left_of, fed}
 use Rattle.client_talk.specs.Handling.{Acts, handled}
 use Rattle.client_talk.specs.Kept.{Hears, EndsHearing}
 use Rattle.attached_client.specs.Client.{ClientSeen}
-use Rattle.open_connection.specs.Connection.{ConnectionSeen}
+use Rattle.open_connection.specs.Connection.{OpenSeen, ConnectionSeen, connection_in}
 use Rattle.open_connection.specs.declared.heard.Heard.{Heard}
 use Rattle.open_connection.specs.declared.heard.Heard.TheVariants as H
 use Rattle.open_connection.specs.declared.step.Step.{Step}
@@ -29,6 +29,10 @@ abbrev pub HearGives : Acts ClientSeen → ConnectionSeen → List ℕ → Heard
 HearGives acts old bytes (H.GoesOn n) new = (ignored : ℕ) × (n ≡ min ignored greatest) × Hears acts old.framing old.client bytes new.framing new.client ignored
 HearGives acts old bytes (H.Ends ending n) new = (ignored : ℕ) × (n ≡ min ignored greatest) × EndsHearing acts old.framing old.client bytes ending new.client ignored
 HearGives acts old bytes (H.NoMemory n) new = (ignored : ℕ) × (n ≡ min ignored greatest) × StopsShort acts old bytes new.client ignored
+
+-- the same of a connection with the room that its client has
+abbrev pub HearsPiece : Acts ClientSeen → OpenSeen → List ℕ → Heard → OpenSeen → Type 0
+HearsPiece acts o bytes answer o' = HearGives acts (connection_in o) bytes answer (connection_in o')
 
 -- all packets that a framer still has: the same of what is left of its bytes
 pub record HearsOn (acts : Acts ClientSeen) (f : Framing) (client : Option ClientSeen) (f' : Framing) (client' : Option ClientSeen) (ignored : ℕ) : Type 0 where

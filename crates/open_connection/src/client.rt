@@ -4,7 +4,7 @@ ghost use Rattle.std.specs.Option.{option_map};
 ghost use Rattle.link_bay.specs.Connections.{OthersStay};
 ghost use Rattle.attached_client.specs.Client.{client_in};
 ghost use Rattle.open_connection.specs.Changing.{FitsIn, IsPreparedIn, ChangesIn};
-ghost use Rattle.open_connection.specs.Sending.{SendsTo};
+ghost use Rattle.open_connection.specs.Sending.{SendsThere};
 
 use attached_client::{Attached, Change, Prepared};
 use client_outbox::Out;
@@ -48,7 +48,7 @@ pub(crate) fn carry_out(
 pub(crate) fn send<B: Bay>(client: &mut Option<Attached>, bay: &mut B, c: Conn, max: u32) -> Out
     requires known { c.0 < (B.provider bay.old).count }
     requires some { 1 ≤ max }
-    ensures answer { SendsTo (B.connection bay.old c.0) (B.connection bay.new c.0) (option_map client_in client.old) max result (option_map client_in client.new) }
+    ensures answer { SendsThere B.connection bay.old bay.new c.0 client.old max result client.new }
     ensures others { OthersStay (B.connection bay.old) (B.connection bay.new) c.0 }
     ensures provider { B.provider bay.new ≡ B.provider bay.old }
 {

@@ -3,9 +3,9 @@ ghost use Rattle.std.specs.Prelude.{◌≡◌, ◌<◌, ◌≤◌, IfOk, option_
 ghost use Rattle.attached_client.specs.Acting.{acts};
 ghost use Rattle.link_bay.specs.Connections.{OthersStay};
 ghost use Rattle.open_connection.specs.Connection.{fresh, connection_in, caps_in};
-ghost use Rattle.open_connection.specs.Reading.{HearGives};
+ghost use Rattle.open_connection.specs.Reading.{HearsPiece};
 ghost use Rattle.open_connection.specs.Changing.{FitsIn, IsPreparedIn, ConnectionChanges};
-ghost use Rattle.open_connection.specs.Sending.{ConnectionSends};
+ghost use Rattle.open_connection.specs.Sending.{SendsOn};
 
 use crate::client::{carry_out, preparing, send};
 use crate::heard::Heard;
@@ -53,7 +53,7 @@ impl Connection {
     /// Handles the packets that become whole with this piece of its bytes, beside this desktop and at this moment, in
     /// milliseconds. The first is read as its hello.
     pub fn hear(&mut self, alloc: Global, conn: Conn, piece: &[u8], desk: &Desk, now: u64) -> Heard
-        ensures { HearGives (acts desk.now conn.0 now) (connection_in self.old) piece.now result (connection_in self.new) }
+        ensures { HearsPiece (acts desk.now conn.0 now) self.old piece.now result self.new }
     {
         if self.framer.feed(piece).is_err() {
             return Heard::NoMemory(0);
@@ -77,7 +77,8 @@ impl Connection {
         }
     }
 
-    /// Makes what a change at this moment, in milliseconds, needs of its client; `None` where no hello was accepted yet.
+    /// Makes what a change at this moment, in milliseconds, needs of its client; `None` where no hello was accepted
+    /// yet.
     pub fn preparing(&mut self, change: Change, now: u64) -> Result<Option<Prepared>, NoMemory>
         requires { FitsIn change self.old.client }
         ensures same { connection_in self.new ≡ connection_in self.old }
@@ -98,7 +99,7 @@ impl Connection {
     pub fn send<B: Bay>(&mut self, bay: &mut B, c: Conn, max: u32) -> Out
         requires known { c.0 < (B.provider bay.old).count }
         requires some { 1 ≤ max }
-        ensures answer { ConnectionSends (B.connection bay.old c.0) (B.connection bay.new c.0) (connection_in self.old) max result (connection_in self.new) }
+        ensures answer { SendsOn B.connection bay.old bay.new c.0 self.old max result self.new }
         ensures others { OthersStay (B.connection bay.old) (B.connection bay.new) c.0 }
         ensures provider { B.provider bay.new ≡ B.provider bay.old }
     {

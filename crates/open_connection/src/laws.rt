@@ -1,4 +1,5 @@
-// What is kept of a connection while its bytes are read and lines are painted. Each law makes the calls of the laws that it stands on.
+// What is kept of a connection while its bytes are read and lines are painted. Each law makes the calls of those that
+// it stands on.
 ghost use Rattle.open_connection.specs.Laws.{HearingListens, HearingEnds, HearingTells, ChangingTells, ChangingListens, ChangingFits};
 
 use attached_client::{
@@ -40,8 +41,8 @@ pub fn hearing_keeps_what_is_told()
     acting_keeps_what_is_told();
 }
 
-/// Whatever is painted, each window of the client stays the model's, and the packets handled those of the bytes given. What a
-/// paint line needs of the client is there.
+/// Whatever is painted, each window of the client stays the model's, and the packets handled those of the bytes given.
+/// What a paint line needs of the client is there.
 pub fn a_change_keeps_a_connection()
     ensures told { ChangingTells }
     ensures listens { ChangingListens }

@@ -1,10 +1,5 @@
-use Rattle.std.proofs.Common.{◌≡◌, ◌+◌, ◌∷◌, [], suc, take, min, ap, ◌∙◌, sym, arith}
-use Rattle.std.specs.Prelude.{sum_by}
-use Rattle.std.proofs.Math.Seq.{take-suc}
-use Rattle.std.proofs.lemmas.List.Sums.{sum_by-append}
+use Rattle.std.proofs.Common.{◌+◌, min, ap, ◌∙◌}
 use Rattle.xp_base.specs.Counts.{greatest}
-use Rattle.window_source.specs.Source.{SourceSeen, job_pixels}
-use Rattle.attached_client.specs.Client.{pixels_in_hand}
 use Rattle.attached_client.proofs.Pixels.{one_more, all_pixels}
 use Rattle.attached_client.proofs.acting.pixels_of.Goals as goal
 

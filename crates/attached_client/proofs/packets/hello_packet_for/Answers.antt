@@ -1,4 +1,4 @@
-use Rattle.std.proofs.Common.{None, length, ap, arith, sym, ◌∙◌, ◌<◌, ◌≡◌, ℕ, List}
+use Rattle.std.proofs.Common.{None, length, ap, arith, ◌∙◌, ◌≡◌}
 use Rattle.bencode_values.specs.declared.value.Value.{Value}
 use Rattle.packet_frames.specs.Written.{packet_bytes}
 use Rattle.hello_caps.specs.Replies.{server_hello_value}

@@ -1,7 +1,7 @@
 use Rattle.packet_frames.proofs.Taking.{gives_less}
-use Rattle.std.proofs.Common.{ap, sym, subst}
+use Rattle.std.proofs.Common.{sym, subst}
 use Rattle.std.specs.Option.{option_map}
-use Rattle.attached_client.specs.Client.{ClientSeen, client_in}
+use Rattle.attached_client.specs.Client.{client_in}
 use Rattle.attached_client.specs.Acting.{acts}
 use Rattle.open_connection.specs.Reading.{StopsAt}
 use Rattle.open_connection.proofs.Hearings.{at_first, goes_on, ends_so, short_at, hears_all, faulty_at, counts_on}

@@ -1,6 +1,6 @@
-use Rattle.std.proofs.Common.{Some, None, ap, sym, ◌∙◌}
+use Rattle.std.proofs.Common.{Some, ap, sym, ◌∙◌}
 use Rattle.client_talk.specs.Handling.{handled}
-use Rattle.attached_client.specs.Client.{ClientSeen, client_in}
+use Rattle.attached_client.specs.Client.{ClientSeen}
 use Rattle.attached_client.specs.Acting.{acts}
 use Rattle.open_connection.proofs.Packets.{greets, is_refused}
 use Rattle.open_connection.proofs.step.take_hello.Goals as goal

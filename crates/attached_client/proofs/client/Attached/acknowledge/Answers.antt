@@ -1,4 +1,4 @@
-use Rattle.std.proofs.Common.{[], pos, None, refl, sym, ap, ◌∙◌, rules, w64}
+use Rattle.std.proofs.Common.{pos, None, refl, sym, ap, ◌∙◌, rules, w64}
 use Rattle.std.proofs.lemmas.Int.{to_z-of_z}
 use Rattle.packet_kinds.specs.declared.from_client.FromClient.TheVariants as C
 use Rattle.window_source.specs.Calls.{acknowledged_at}

@@ -1,4 +1,4 @@
-use Rattle.std.proofs.Common.{◌≡◌, None, List, ap, ◌∙◌}
+use Rattle.std.proofs.Common.{List, ap, ◌∙◌}
 use Rattle.std.specs.Prelude.{is_some}
 use Rattle.window_source.specs.Source.{SourceSeen}
 use Rattle.client_delivery.specs.Attached.{source_key, find_source}

@@ -1,6 +1,5 @@
 use Rattle.std.proofs.Common.{sym, subst}
-use Rattle.attached_client.specs.Client.{ClientSeen}
-use Rattle.attached_client.specs.Changes.{ClientChanges, IsMade, Loses}
+use Rattle.attached_client.specs.Changes.{ClientChanges, IsMade}
 use Rattle.attached_client.proofs.CarriedOut.{nothing_carries, window_carries, window_is_new, lost_carries, message_carries, pending_carries}
 use Rattle.attached_client.proofs.client.Attached.carry_out.Goals as goal
 

@@ -1,10 +1,6 @@
-use Rattle.std.proofs.Common.{◌≡◌, List, refl, ap, subst}
-use Rattle.window_source.specs.Source.{SourceSeen}
-use Rattle.client_outbox.specs.Outgoing.{Outgoing}
-use Rattle.xp_base.specs.Points.{Rectangle}
+use Rattle.std.proofs.Common.{refl, ap}
 use Rattle.client_delivery.specs.Attached.{source_key}
-use Rattle.attached_client.specs.Client.{Attachment, ClientSeen}
-use Rattle.attached_client.specs.Changes.{Loses}
+use Rattle.attached_client.specs.Client.{Attachment}
 use Rattle.attached_client.proofs.CarriedOut.{loses_so}
 use Rattle.attached_client.proofs.client.Attached.lose.Goals as goal
 

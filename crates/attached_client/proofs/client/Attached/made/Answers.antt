@@ -1,4 +1,4 @@
-use Rattle.std.proofs.Common.{◌≡◌, ℕ, Some, None, ap, sym, ◌∙◌, subst}
+use Rattle.std.proofs.Common.{ℕ, ap, sym, ◌∙◌, subst}
 use Rattle.std.specs.Prelude.{Option, IfOk}
 use Rattle.window_source.specs.Source.{SourceSeen}
 use Rattle.client_delivery.specs.Attached.{find_source}

@@ -1,4 +1,4 @@
-use Rattle.std.proofs.Common.{[], refl, sym, ap, rules, w64}
+use Rattle.std.proofs.Common.{[], refl, ap, rules, w64}
 use Rattle.std.proofs.lemmas.Int.{to_z-of_z}
 use Rattle.packet_kinds.specs.declared.from_client.FromClient.TheVariants as C
 use Rattle.client_delivery.specs.Steps.{quiet, Mapping}

@@ -1,8 +1,6 @@
-use Rattle.std.proofs.Common.{◌≡◌, List, map, ap, sym, ◌∙◌, subst, arith}
+use Rattle.std.proofs.Common.{map, ap, sym, ◌∙◌, subst}
 use Rattle.std.proofs.lemmas.List.{take_all}
 use Rattle.xp_base.specs.Keyed.{HasDistinctKeys}
-use Rattle.window_model.specs.Desktop.{Window}
-use Rattle.window_source.specs.Source.{SourceSeen}
 use Rattle.client_delivery.specs.Attached.{source_key, started_source}
 use Rattle.attached_client.proofs.Begun.{distinct_begun}
 use Rattle.attached_client.proofs.client.Attached.new.Goals as goal
