@@ -1,6 +1,7 @@
 // The queue of jobs in one thread.
 ghost use Rattle.std.specs.Prelude.{◌≡◌};
-ghost use Rattle.encode_pool.specs.Passes.{seen, IsPassIn, IsFirst};
+ghost use Rattle.encode_pool.specs.Passes.{seen, IsPassIn};
+ghost use Rattle.pool_tests.specs.Passes.{IsFirstIn};
 
 use crate::samples::{capture_of, job_of};
 use encode_pool::{CAPACITY, JobPass, JobQueue, pool_types_move};
@@ -17,10 +18,8 @@ fn push<R: Wait>(
     from: u64,
     to: u64,
 ) -> Result<u64, Fail>
-    requires queue { IsPassIn queue.now first.old }
-    requires first { IsFirst first.old }
-    ensures queue { IsPassIn queue.now first.new }
-    ensures first { IsFirst first.new }
+    requires { IsFirstIn queue.now first.old }
+    ensures { IsFirstIn queue.now first.new }
 {
     for number in from..to {
         let job = job_of(number, capture)?;

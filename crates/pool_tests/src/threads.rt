@@ -1,7 +1,8 @@
 // The queue of jobs in four threads.
 ghost use Rattle.std.specs.Prelude.{◌≡◌};
 ghost use Rattle.std.specs.Thread.{IsSync};
-ghost use Rattle.encode_pool.specs.Passes.{seen, IsPassIn, IsFirst};
+ghost use Rattle.encode_pool.specs.Passes.{seen, IsPassIn};
+ghost use Rattle.pool_tests.specs.Passes.{IsFirstIn};
 
 use crate::samples::{capture_of, job_of};
 use capture_jobs::Job;
@@ -45,10 +46,8 @@ fn pop_one<R: Wait>(rt: &R, queue: &JobQueue, side: &mut Side) -> Option<u64>
 
 /// Pushes a job. While there is no room, the pass pops.
 fn push_one<R: Wait>(rt: &R, queue: &JobQueue, side: &mut Side, job: Job)
-    requires queue { IsPassIn queue.now side.old.pass }
-    requires first { IsFirst side.old.pass }
-    ensures queue { IsPassIn queue.now side.new.pass }
-    ensures first { IsFirst side.new.pass }
+    requires { IsFirstIn queue.now side.old.pass }
+    ensures { IsFirstIn queue.now side.new.pass }
 {
     let mut waiting = job;
     for _ in rt.forever() {
@@ -63,8 +62,8 @@ fn push_one<R: Wait>(rt: &R, queue: &JobQueue, side: &mut Side, job: Job)
 
 /// Pushes the jobs one after another.
 fn push_all<R: Wait>(rt: &R, queue: &JobQueue, mut side: Side, jobs: Vec<Job>) -> Side
-    requires { IsPassIn queue.now side.pass × IsFirst side.pass }
-    ensures { IsPassIn queue.now result.pass × IsFirst result.pass }
+    requires { IsFirstIn queue.now side.pass }
+    ensures { IsFirstIn queue.now result.pass }
 {
     for job in jobs {
         push_one(rt, queue, &mut side, job);
@@ -116,14 +115,14 @@ fn push_beside<R: Threads + Wait + Sync>(
     jobs: Vec<Job>,
     other: Side,
 ) -> (Side, Side)
-    requires { IsPassIn queue.now first.pass × IsFirst first.pass × IsPassIn queue.now other.pass }
-    ensures { IsPassIn queue.now result.0.pass × IsFirst result.0.pass × IsPassIn queue.now result.1.pass }
+    requires { IsFirstIn queue.now first.pass × IsPassIn queue.now other.pass }
+    ensures { IsFirstIn queue.now result.0.pass × IsPassIn queue.now result.1.pass }
 {
     thread::join(
         rt,
         move || -> Side
-            requires { IsPassIn queue.now first.pass × IsFirst first.pass }
-            ensures { IsPassIn queue.entry.now result.pass × IsFirst result.pass }
+            requires { IsFirstIn queue.now first.pass }
+            ensures { IsFirstIn queue.entry.now result.pass }
         { push_all(rt, queue, first, jobs) },
         move || -> Side
             requires { IsPassIn queue.now other.pass }
@@ -140,17 +139,19 @@ fn run<R: Threads + Wait + Sync>(
     first: Side,
     others: (Side, Side, Side),
 ) -> ((Side, Side), (Side, Side))
-    requires first { IsPassIn queue.now first.pass × IsFirst first.pass }
-    requires others { IsPassIn queue.now others.0.pass × IsPassIn queue.now others.1.pass × IsPassIn queue.now others.2.pass }
-    ensures first { IsPassIn queue.now result.0.0.pass × IsFirst result.0.0.pass × IsPassIn queue.now result.0.1.pass }
+    requires first { IsFirstIn queue.now first.pass }
+    requires one { IsPassIn queue.now others.0.pass }
+    requires two { IsPassIn queue.now others.1.pass }
+    requires three { IsPassIn queue.now others.2.pass }
+    ensures first { IsFirstIn queue.now result.0.0.pass × IsPassIn queue.now result.0.1.pass }
     ensures others { IsPassIn queue.now result.1.0.pass × IsPassIn queue.now result.1.1.pass }
 {
     let (one, two, three) = others;
     thread::join(
         rt,
         move || -> (Side, Side)
-            requires { IsSync R.row × IsPassIn queue.now first.pass × IsFirst first.pass × IsPassIn queue.now one.pass }
-            ensures { IsPassIn queue.entry.now result.0.pass × IsFirst result.0.pass × IsPassIn queue.entry.now result.1.pass }
+            requires { IsSync R.row × IsFirstIn queue.now first.pass × IsPassIn queue.now one.pass }
+            ensures { IsFirstIn queue.entry.now result.0.pass × IsPassIn queue.entry.now result.1.pass }
         { push_beside(rt, queue, first, jobs, one) },
         move || -> (Side, Side)
             requires { IsSync R.row × IsPassIn queue.now two.pass × IsPassIn queue.now three.pass }
@@ -177,10 +178,20 @@ fn no_times(alloc: Global) -> Result<Vec<u8>, Fail> {
     Ok(vec![in alloc; 0u8; JOBS as usize + 1]?)
 }
 
+/// Takes a further pass in: how often each number came out by it.
+fn taken_in(queue: &JobQueue, first: &mut JobPass, other: Side) -> Vec<u8>
+    requires { IsFirstIn queue.now first.old × IsPassIn queue.now other.pass }
+    ensures { IsFirstIn queue.now first.new }
+{
+    let Side { pass, times } = other;
+    queue.join(first, pass);
+    times
+}
+
 /// How often the number came out by all four.
-fn times_in_all(sides: &[Vec<u8>], number: u64) -> u64 {
+fn times_in_all(counts: &[Vec<u8>], number: u64) -> u64 {
     let mut sum = 0u64;
-    for times in sides {
+    for times in counts {
         if let Some(times) = times.get(number as usize) {
             sum = sum.saturating_add(u64::from(*times));
         }
@@ -188,29 +199,48 @@ fn times_in_all(sides: &[Vec<u8>], number: u64) -> u64 {
     sum
 }
 
+/// The first job that did not come out once, or 0.
+fn first_wrong(counts: &[Vec<u8>]) -> u64 {
+    for number in 1..JOBS + 1 {
+        if times_in_all(counts, number) != 1 {
+            return number;
+        }
+    }
+    0
+}
+
 #[test]
 fn each_job_comes_out_once(rt: HostRuntime) -> Result<(), Fail> {
     let alloc = rt.alloc();
     let jobs = all_jobs(alloc)?;
-    let counts = (no_times(alloc)?, no_times(alloc)?, no_times(alloc)?, no_times(alloc)?);
-    let mut sides = Vec::with_capacity(alloc, 4)?;
+    let (mine, one, two, three) = (
+        no_times(alloc)?,
+        no_times(alloc)?,
+        no_times(alloc)?,
+        no_times(alloc)?,
+    );
     let (queue, mut pass) = JobQueue::new(alloc)?;
-    let one = Side { pass: queue.split(&mut pass), times: counts.1 };
-    let two = Side { pass: queue.split(&mut pass), times: counts.2 };
-    let three = Side { pass: queue.split(&mut pass), times: counts.3 };
-    let first = Side { pass, times: counts.0 };
+    let one = Side {
+        pass: queue.split(&mut pass),
+        times: one,
+    };
+    let two = Side {
+        pass: queue.split(&mut pass),
+        times: two,
+    };
+    let three = Side {
+        pass: queue.split(&mut pass),
+        times: three,
+    };
+    let first = Side { pass, times: mine };
     let ((first, one), (two, three)) = run(&rt, &queue, jobs, first, (one, two, three));
     let Side { mut pass, times } = first;
-    sides.push(times)?;
-    for side in [one, two, three] {
-        let Side { pass: further, times } = side;
-        queue.join(&mut pass, further);
-        sides.push(times)?;
-    }
+    let one = taken_in(&queue, &mut pass, one);
+    let two = taken_in(&queue, &mut pass, two);
+    let three = taken_in(&queue, &mut pass, three);
     assert!(rt; queue.pop(&rt, &mut pass).is_none());
-    assert_eq!(rt; times_in_all(sides.as_slice(), STOP), 3);
-    for number in 1..JOBS + 1 {
-        assert_eq!(rt; times_in_all(sides.as_slice(), number), 1, "{number}");
-    }
+    let counts = [times, one, two, three];
+    assert_eq!(rt; times_in_all(&counts, STOP), 3);
+    assert_eq!(rt; first_wrong(&counts), 0);
     Ok(())
 }

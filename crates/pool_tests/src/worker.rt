@@ -33,6 +33,7 @@ const WORK: &[(usize, &[u64], u64, &str, u64)] = &[
 ];
 
 /// Notes its calls, two digits each.
+#[derive(Drop)]
 struct Calls(AtomicU64);
 
 impl Calls {
