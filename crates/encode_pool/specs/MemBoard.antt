@@ -1,5 +1,6 @@
 -- A board in memory: what it holds, and what each of its calls leaves of it. This project's own.
-use Rattle.std.specs.Prelude.{ℕ, ◌≡◌, ◌==◌, Bool, false, list_any, Option, None, Some, List, [], ◌∷◌, ◌++◌, if◌then◌else◌}
+use Rattle.std.specs.Prelude.{ℕ, ◌≡◌, ◌==◌, Bool, false, Option, None, Some, List, [], ◌∷◌, ◌++◌, if◌then◌else◌}
+use Rattle.std.specs.List.{list_any}
 use Rattle.capture_jobs.specs.Jobs.{EncodingJob, FinishedJob}
 use Rattle.capture_jobs.specs.declared.answers.Taken.{Taken}
 use Rattle.capture_jobs.specs.declared.answers.Taken.TheVariants as T

@@ -37,13 +37,14 @@ impl Model for MemBoard {
     ghost Value = { BoardInMemory };
 
     ghost view = { λ b. record {
-        board = record { held = option_map (λ job. handed_out job.value) b.held; taken = b.taken; filed = b.filed; nothings = b.nothings; stops = b.stops };
-        waiting = b.waiting.items;
-        results = b.results.items;
-        failing = b.failing.items;
-        stopping = b.stopping;
-        filings = b.filings;
-        looks = b.looks } };
+      board = record { held = option_map (λ job. handed_out job.value) b.held; taken = b.taken; filed = b.filed; nothings = b.nothings; stops = b.stops };
+      waiting = b.waiting.items;
+      results = b.results.items;
+      failing = b.failing.items;
+      stopping = b.stopping;
+      filings = b.filings;
+      looks = b.looks;
+    } };
 }
 
 impl MemBoard {

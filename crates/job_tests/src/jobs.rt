@@ -6,14 +6,33 @@ use std::alloc::Global;
 use std::fmt::Write;
 use std::sync::Arc;
 use std::test::Fail;
-use xp_base::{Capture, Coding, Conn, JobId, Pixel, Pixels};
+use xp_base::{Capture, Coding, Conn, JobId, Pixel, Pixels, Wid};
 
 /// Numbers of jobs, connections and windows, the coding of one pixel in the column of the job's number,
-/// what is told of the job, and of the bytes of its result. The pixel's colour is 102030.
-const JOBS: &[(u64, u32, i64, Coding, &str, &str)] = &[
-    (1, 0, 1, Coding::Exact, "job 1 of 0 1, 1 0 1 1 exact: 1056816", " 48 32 16 255"),
-    (2, 7, 65_535, Coding::Lossy, "job 2 of 7 65535, 2 0 1 1 lossy: 1056816", " 6 17"),
-    (4095, 4_294_967_295, 2, Coding::Exact, "job 4095 of 4294967295 2, 4095 0 1 1 exact: 1056816", " 48 32 16 255"),
+/// and what is told of the job, of its result, and of the encoding that comes out of that. The pixel's
+/// colour is 102030.
+const JOBS: &[(u64, u32, i64, Coding, &str)] = &[
+    (
+        1,
+        0,
+        1,
+        Coding::Exact,
+        "1 of 0 1, 1 0 1 1 exact: 1056816; 1 of 0 1, 1 0 1 1 exact: 1056816; 48 32 16 255 48 32 16 255",
+    ),
+    (
+        2,
+        7,
+        65_535,
+        Coding::Lossy,
+        "2 of 7 65535, 2 0 1 1 lossy: 1056816; 2 of 7 65535, 2 0 1 1 lossy: 1056816; 6 17 6 17",
+    ),
+    (
+        4095,
+        4_294_967_295,
+        2,
+        Coding::Exact,
+        "4095 of 4294967295 2, 4095 0 1 1 exact: 1056816; 4095 of 4294967295 2, 4095 0 1 1 exact: 1056816; 48 32 16 255 48 32 16 255",
+    ),
 ];
 
 fn job_of(alloc: Global, id: u64, conn: u32, wid: i64, coding: Coding) -> Result<Job, Fail> {
@@ -33,48 +52,40 @@ fn done_of(alloc: Global, job: Job) -> Result<Done, Fail> {
 }
 
 /// Writes a job's numbers, and what it captured.
-fn tell(out: &mut String, id: JobId, conn: Conn, wid: u16, capture: &Capture) -> Result<(), Fail> {
-    let (id, conn) = (id.0, conn.0);
-    write!(out, "job {id} of {conn} {wid}, ")?;
-    tell_capture(out, capture)
+fn tell(out: &mut String, id: JobId, conn: Conn, wid: Wid, capture: &Capture) -> Result<(), Fail> {
+    let (id, conn, wid) = (id.0, conn.0, wid.get());
+    write!(out, "{id} of {conn} {wid}, ")?;
+    tell_capture(out, capture)?;
+    out.push(';')?;
+    Ok(())
 }
 
-fn told_job(alloc: Global, job: &Job) -> Result<String, Fail> {
-    let mut out = String::new(alloc);
-    let wid = job.wid();
-    tell(&mut out, job.id(), job.conn(), wid.get(), job.capture())?;
-    Ok(out)
-}
-
-fn told_done(alloc: Global, done: &Done) -> Result<String, Fail> {
-    let mut out = String::new(alloc);
-    let wid = done.wid();
-    tell(&mut out, done.id(), done.conn(), wid.get(), done.capture())?;
-    Ok(out)
-}
-
-fn told_bytes(alloc: Global, bytes: &[u8]) -> Result<String, Fail> {
-    let mut out = String::new(alloc);
+fn tell_bytes(out: &mut String, bytes: &[u8]) -> Result<(), Fail> {
     for byte in bytes {
         write!(out, " {byte}")?;
     }
+    Ok(())
+}
+
+/// What is told of a job, of its result, and of its encoding.
+fn told(alloc: Global, job: Job) -> Result<String, Fail> {
+    let mut out = String::new(alloc);
+    tell(&mut out, job.id(), job.conn(), job.wid(), job.capture())?;
+    out.push(' ')?;
+    let done = done_of(alloc, job)?;
+    tell(&mut out, done.id(), done.conn(), done.wid(), done.capture())?;
+    tell_bytes(&mut out, done.encoded().bytes.as_slice())?;
+    let encoded = done.into_encoded();
+    tell_bytes(&mut out, encoded.bytes.as_slice())?;
     Ok(out)
 }
 
 #[test]
 fn a_job_and_its_result_tell_what_they_are_for(rt: HostRuntime) -> Result<(), Fail> {
-    let alloc = rt.alloc();
     job_types_move();
-    for (id, conn, wid, coding, want, bytes) in JOBS {
-        let job = job_of(alloc, *id, *conn, *wid, *coding)?;
-        assert_eq!(rt; told_job(alloc, &job)?.as_str(), *want);
-        let done = done_of(alloc, job)?;
-        assert_eq!(rt; told_done(alloc, &done)?.as_str(), *want);
-        let found = told_bytes(alloc, done.encoded().bytes.as_slice())?;
-        assert_eq!(rt; found.as_str(), *bytes);
-        let encoded = done.into_encoded();
-        let found = told_bytes(alloc, encoded.bytes.as_slice())?;
-        assert_eq!(rt; found.as_str(), *bytes);
+    for (id, conn, wid, coding, want) in JOBS {
+        let job = job_of(rt.alloc(), *id, *conn, *wid, *coding)?;
+        assert_eq!(rt; told(rt.alloc(), job)?.as_str(), *want);
     }
     Ok(())
 }
@@ -83,69 +94,71 @@ fn a_job_and_its_result_tell_what_they_are_for(rt: HostRuntime) -> Result<(), Fa
 fn tell_numbers(out: &mut String, jobs: &[Job]) -> Result<(), Fail> {
     for job in jobs {
         let id = job.id().0;
-        write!(out, " {id}")?;
+        write!(out, "{id} ")?;
     }
     Ok(())
 }
 
-fn told_taken(alloc: Global, taken: &Taken) -> Result<String, Fail> {
-    let mut out = String::new(alloc);
+fn tell_taken(out: &mut String, taken: &Taken) -> Result<(), Fail> {
     match taken {
-        Taken::Job(job) => {
-            let id = job.id().0;
-            write!(out, "job {id}")?;
-        }
-        Taken::Nothing => out.push_str("nothing")?,
+        Taken::Job(job) => tell_number(out, "job ", job.id())?,
+        Taken::Nothing => out.push_str("nothing; ")?,
     }
-    Ok(out)
+    Ok(())
 }
 
-fn told_filed(alloc: Global, filed: &Filed) -> Result<String, Fail> {
-    let mut out = String::new(alloc);
+fn tell_filed(out: &mut String, filed: &Filed) -> Result<(), Fail> {
     match filed {
-        Filed::Filed => out.push_str("filed")?,
-        Filed::Late => out.push_str("late")?,
-        Filed::Foreign(done) => {
-            let id = done.id().0;
-            write!(out, "foreign {id}")?;
-        }
-        Filed::Back(done) => {
-            let id = done.id().0;
-            write!(out, "back {id}")?;
-        }
+        Filed::Filed => out.push_str("filed; ")?,
+        Filed::Late => out.push_str("late; ")?,
+        Filed::Foreign(done) => tell_number(out, "foreign ", done.id())?,
+        Filed::Back(done) => tell_number(out, "back ", done.id())?,
     }
-    Ok(out)
+    Ok(())
 }
 
-/// Three jobs with the numbers 8, 5 and 9.
-fn three(alloc: Global) -> Result<Vec<Job>, Fail> {
+fn tell_number(out: &mut String, word: &str, id: JobId) -> Result<(), Fail> {
+    let number = id.0;
+    write!(out, "{word}{number}; ")?;
+    Ok(())
+}
+
+fn exact_job(alloc: Global, id: u64) -> Result<Job, Fail> {
+    job_of(alloc, id, 0, 1, Coding::Exact)
+}
+
+/// The numbers of three jobs in a list of new ones, of held ones, and out of that.
+fn told_lists(alloc: Global) -> Result<String, Fail> {
+    let mut out = String::new(alloc);
     let mut jobs = Vec::new(alloc);
     for id in [8, 5, 9] {
-        jobs.push(job_of(alloc, id, 0, 1, Coding::Exact)?)?;
+        jobs.push(exact_job(alloc, id)?)?;
     }
-    Ok(jobs)
+    let made = NewJobs::new(jobs);
+    tell_numbers(&mut out, made.as_slice())?;
+    let held = Held::new(made.into_vec());
+    tell_numbers(&mut out, held.as_slice())?;
+    tell_numbers(&mut out, held.into_vec().as_slice())?;
+    Ok(out)
+}
+
+fn told_answers(alloc: Global) -> Result<String, Fail> {
+    let mut out = String::new(alloc);
+    tell_taken(&mut out, &Taken::Job(exact_job(alloc, 8)?))?;
+    tell_taken(&mut out, &Taken::Nothing)?;
+    tell_filed(&mut out, &Filed::Filed)?;
+    tell_filed(&mut out, &Filed::Late)?;
+    tell_filed(&mut out, &Filed::Foreign(done_of(alloc, exact_job(alloc, 9)?)?))?;
+    tell_filed(&mut out, &Filed::Back(done_of(alloc, exact_job(alloc, 5)?)?))?;
+    Ok(out)
 }
 
 #[test]
 fn lists_and_answers_hand_out_what_was_put_in(rt: HostRuntime) -> Result<(), Fail> {
-    let alloc = rt.alloc();
-    let mut out = String::new(alloc);
-    let made = NewJobs::new(three(alloc)?);
-    tell_numbers(&mut out, made.as_slice())?;
-    let held = Held::new(made.into_vec());
-    tell_numbers(&mut out, held.as_slice())?;
-    let mut jobs = held.into_vec();
-    tell_numbers(&mut out, jobs.as_slice())?;
-    assert_eq!(rt; out.as_str(), " 8 5 9 8 5 9 8 5 9");
-    let foreign = done_of(alloc, jobs.pop().ok_or("a job")?)?;
-    let back = done_of(alloc, jobs.pop().ok_or("a job")?)?;
-    let taken = Taken::Job(jobs.pop().ok_or("a job")?);
-    assert_eq!(rt; told_taken(alloc, &taken)?.as_str(), "job 8");
-    assert_eq!(rt; told_taken(alloc, &Taken::Nothing)?.as_str(), "nothing");
-    assert_eq!(rt; told_filed(alloc, &Filed::Filed)?.as_str(), "filed");
-    assert_eq!(rt; told_filed(alloc, &Filed::Late)?.as_str(), "late");
-    let foreign = Filed::Foreign(foreign);
-    assert_eq!(rt; told_filed(alloc, &foreign)?.as_str(), "foreign 9");
-    assert_eq!(rt; told_filed(alloc, &Filed::Back(back))?.as_str(), "back 5");
+    assert_eq!(rt; told_lists(rt.alloc())?.as_str(), "8 5 9 8 5 9 8 5 9 ");
+    assert_eq!(rt;
+        told_answers(rt.alloc())?.as_str(),
+        "job 8; nothing; filed; late; foreign 9; back 5; "
+    );
     Ok(())
 }

@@ -1,6 +1,6 @@
 // Which rectangles a capture takes, and how each is coded.
 use crate::samples::{rectangle, tell_rectangle};
-use capture_jobs::{MOST_RECTANGLES, Plan, plan};
+use capture_jobs::{MOST_RECTANGLES, Planned, plan};
 use rect_regions::{BitRegion, Points, Region};
 use std::alloc::Global;
 use std::fmt::Write;
@@ -96,21 +96,22 @@ fn points_of<P: Points>(alloc: Global, rects: &[(u32, u32, u32, u32)]) -> Result
     Ok(points)
 }
 
-/// Writes the plan's rectangles from this place on, one behind the other.
-fn tell_plan(alloc: Global, plan: &Plan, from: usize) -> Result<String, Fail> {
-    let mut out = String::new(alloc);
-    for planned in plan.as_slice().iter().skip(from) {
-        tell_rectangle(&mut out, planned.rect, planned.coding)?;
+/// Writes rectangles and their codings, one behind the other.
+fn tell_plan(out: &mut String, plan: &[Planned]) -> Result<(), Fail> {
+    for planned in plan {
+        tell_rectangle(out, planned.rect, planned.coding)?;
         out.push_str("; ")?;
     }
-    Ok(out)
+    Ok(())
 }
 
 /// What is told of the plan of these points, kept as a `P`.
 fn planned<P: Points>(alloc: Global, case: &Case) -> Result<String, Fail> {
     let points = points_of::<P>(alloc, case.rects)?;
     let plan = plan(alloc, &points, case.refresh, case.lossy)?;
-    tell_plan(alloc, &plan, 0)
+    let mut out = String::new(alloc);
+    tell_plan(&mut out, plan.as_slice())?;
+    Ok(out)
 }
 
 #[test]
@@ -124,20 +125,21 @@ fn a_large_rectangle_is_lossy_where_it_may_be(rt: HostRuntime) -> Result<(), Fai
     Ok(())
 }
 
-/// So many columns of this height, every other one from column 0 on; the rectangles of their list, of
-/// their plan, and the last of the plan. The client allows lossy draws. 33 pixels in a row become one
-/// rectangle, and 33 columns of 64 one of 4,160 pixels, which is exact all the same.
-const COMBS: &[(u32, u32, u32, usize, &str)] = &[
-    (1, 1, 1, 1, "0 0 1 1 exact; "),
-    (31, 1, 31, 31, "60 0 1 1 exact; "),
-    (32, 1, 32, 32, "62 0 1 1 exact; "),
-    (33, 1, 33, 1, "0 0 65 1 exact; "),
-    (34, 1, 34, 1, "0 0 67 1 exact; "),
-    (2, 4096, 2, 2, "2 0 1 4096 lossy; "),
-    (32, 4095, 32, 32, "62 0 1 4095 exact; "),
-    (32, 4096, 32, 32, "62 0 1 4096 lossy; "),
-    (33, 64, 33, 1, "0 0 65 64 exact; "),
-    (33, 4096, 33, 1, "0 0 65 4096 exact; "),
+/// So many columns of this height, every other one from column 0 on, and what is told of them: the
+/// rectangles of their list, of their plan, and the last of the plan. The client allows lossy draws. 33
+/// pixels in a row become one rectangle, and 33 columns of 64 one of 4,160 pixels, which is exact all the
+/// same.
+const COMBS: &[(u32, u32, &str)] = &[
+    (1, 1, "1 are 1: 0 0 1 1 exact; "),
+    (31, 1, "31 are 31: 60 0 1 1 exact; "),
+    (32, 1, "32 are 32: 62 0 1 1 exact; "),
+    (33, 1, "33 are 1: 0 0 65 1 exact; "),
+    (34, 1, "34 are 1: 0 0 67 1 exact; "),
+    (2, 4096, "2 are 2: 2 0 1 4096 lossy; "),
+    (32, 4095, "32 are 32: 62 0 1 4095 exact; "),
+    (32, 4096, "32 are 32: 62 0 1 4096 lossy; "),
+    (33, 64, "33 are 1: 0 0 65 64 exact; "),
+    (33, 4096, "33 are 1: 0 0 65 4096 exact; "),
 ];
 
 fn comb(alloc: Global, teeth: u32, high: u32) -> Result<Region, Fail> {
@@ -149,18 +151,22 @@ fn comb(alloc: Global, teeth: u32, high: u32) -> Result<Region, Fail> {
     Ok(points)
 }
 
+fn told(alloc: Global, teeth: u32, high: u32) -> Result<String, Fail> {
+    let points = comb(alloc, teeth, high)?;
+    let pieces = points.pieces();
+    let planned = plan(alloc, &points, false, true)?.into_vec();
+    let many = planned.len();
+    let mut out = String::new(alloc);
+    write!(out, "{pieces} are {many}: ")?;
+    tell_plan(&mut out, &planned.as_slice()[many.saturating_sub(1)..])?;
+    Ok(out)
+}
+
 #[test]
 fn more_than_32_rectangles_are_captured_as_one(rt: HostRuntime) -> Result<(), Fail> {
-    let alloc = rt.alloc();
     assert_eq!(rt; MOST_RECTANGLES, 32);
-    for (teeth, high, pieces, many, last) in COMBS {
-        let points = comb(alloc, *teeth, *high)?;
-        assert_eq!(rt; points.pieces(), *pieces, "{teeth}");
-        let plan = plan(alloc, &points, false, true)?;
-        assert_eq!(rt; plan.as_slice().len(), *many, "{teeth}");
-        let told = tell_plan(alloc, &plan, *many - 1)?;
-        assert_eq!(rt; told.as_str(), *last);
-        assert_eq!(rt; plan.into_vec().len(), *many);
+    for (teeth, high, want) in COMBS {
+        assert_eq!(rt; told(rt.alloc(), *teeth, *high)?.as_str(), *want);
     }
     Ok(())
 }
