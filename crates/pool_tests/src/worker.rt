@@ -23,10 +23,28 @@ const JOBS: &[(Coding, u32)] = &[
 const WORK: &[(usize, &[u64], u64, &str, u64)] = &[
     (0, &[], 0, "out 0;", 0),
     (1, &[], 0, "out 1; 1: 48 32 16 255", 1112),
-    (3, &[], 0, "out 3; 1: 48 32 16 255 2: 6 17 3: 0 0 255 255", 111_221_223_132),
+    (
+        3,
+        &[],
+        0,
+        "out 3; 1: 48 32 16 255 2: 6 17 3: 0 0 255 255",
+        111_221_223_132,
+    ),
     (3, &[1], 0, "no memory 1: 48 32 16 255;", 1112),
-    (3, &[3], 0, "no memory 3: 0 0 255 255; 1: 48 32 16 255 2: 6 17", 111_221_223_132),
-    (3, &[4], 4, "out 3; 1: 48 32 16 255 2: 6 17 3: 0 0 255 255", 111_221_223_132),
+    (
+        3,
+        &[3],
+        0,
+        "no memory 3: 0 0 255 255; 1: 48 32 16 255 2: 6 17",
+        111_221_223_132,
+    ),
+    (
+        3,
+        &[4],
+        4,
+        "out 3; 1: 48 32 16 255 2: 6 17 3: 0 0 255 255",
+        111_221_223_132,
+    ),
     (3, &[], 1, "stopped 1: 48 32 16 255;", 1112),
     (3, &[2], 2, "stopped 2: 6 17; 1: 48 32 16 255", 11_122_122),
     (2, &[], 3, "out 2; 1: 48 32 16 255 2: 6 17", 11_122_122),
@@ -40,7 +58,10 @@ impl Calls {
     fn note(&self, id: JobId, when: u64) {
         let before = self.0.load(Ordering::SeqCst);
         let digits = id.0.wrapping_mul(10).wrapping_add(when);
-        self.0.store(before.wrapping_mul(100).wrapping_add(digits), Ordering::SeqCst);
+        self.0.store(
+            before.wrapping_mul(100).wrapping_add(digits),
+            Ordering::SeqCst,
+        );
     }
 }
 
