@@ -11,7 +11,14 @@ use xp_base::{Capture, Coding, Rect, Wid};
 const CAPTURES: &[(u32, u32, u32, u32, Coding, &str)] = &[
     (0, 0, 1, 1, Coding::Exact, "0 0 1 1 exact: 0"),
     (4, 3, 1, 1, Coding::Lossy, "4 3 1 1 lossy: 19"),
-    (1, 2, 3, 2, Coding::Exact, "1 2 3 2 exact: 11 12 13 16 17 18"),
+    (
+        1,
+        2,
+        3,
+        2,
+        Coding::Exact,
+        "1 2 3 2 exact: 11 12 13 16 17 18",
+    ),
     (0, 1, 5, 1, Coding::Lossy, "0 1 5 1 lossy: 5 6 7 8 9"),
     (2, 0, 1, 4, Coding::Exact, "2 0 1 4 exact: 2 7 12 17"),
     (3, 1, 2, 2, Coding::Exact, "3 1 2 2 exact: 8 9 13 14"),

@@ -148,8 +148,14 @@ fn told_answers(alloc: Global) -> Result<String, Fail> {
     tell_taken(&mut out, &Taken::Nothing)?;
     tell_filed(&mut out, &Filed::Filed)?;
     tell_filed(&mut out, &Filed::Late)?;
-    tell_filed(&mut out, &Filed::Foreign(done_of(alloc, exact_job(alloc, 9)?)?))?;
-    tell_filed(&mut out, &Filed::Back(done_of(alloc, exact_job(alloc, 5)?)?))?;
+    tell_filed(
+        &mut out,
+        &Filed::Foreign(done_of(alloc, exact_job(alloc, 9)?)?),
+    )?;
+    tell_filed(
+        &mut out,
+        &Filed::Back(done_of(alloc, exact_job(alloc, 5)?)?),
+    )?;
     Ok(out)
 }
 

@@ -36,13 +36,7 @@ pub fn desktop(alloc: Global, wid: Wid, w: u32, h: u32, first: u32) -> Result<De
 }
 
 /// Gives the pixels of a rectangle of the window the numbers from `first` on, row by row.
-pub fn draw(
-    desk: &mut Desk,
-    alloc: Global,
-    wid: Wid,
-    rect: Rect,
-    first: u32,
-) -> Result<(), Fail> {
+pub fn draw(desk: &mut Desk, alloc: Global, wid: Wid, rect: Rect, first: u32) -> Result<(), Fail> {
     let window = desk.find(wid).ok_or("no window")?;
     if !rect.lies_in(window.w, window.h) {
         return Err(Fail::from("the rectangle is outside"));

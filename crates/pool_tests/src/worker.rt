@@ -1,4 +1,7 @@
 // The worker over a board in memory.
+ghost use Rattle.std.specs.Prelude.{IfOk};
+ghost use Rattle.encode_pool.specs.Board.{IsFree};
+
 use crate::samples::{capture_of, job_of};
 use capture_jobs::{Done, Job};
 use encode_pool::{Gate, Left, MemBoard, NoGate, Worked, work};
@@ -129,7 +132,9 @@ fn told(alloc: Global, worked: &Worked, board: &MemBoard) -> Result<String, Fail
     Ok(out)
 }
 
-fn board_of(alloc: Global, many: usize, failing: &[u64], stopping: u64) -> Result<MemBoard, Fail> {
+fn board_of(alloc: Global, many: usize, failing: &[u64], stopping: u64) -> Result<MemBoard, Fail>
+    ensures { IfOk result (λ board. IsFree board.board) }
+{
     let failing = Vec::from_slice(alloc, failing)?;
     Ok(MemBoard::new(alloc, waiting(alloc, many)?, failing, stopping))
 }
