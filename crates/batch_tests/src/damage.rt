@@ -92,6 +92,9 @@ fn the_delay_follows_the_load(rt: HostRuntime) -> Result<(), Fail> {
             Event::Acknowledgement => batch.on_ack(*load),
         }
         assert_eq!(rt; batch.due(0), Due::Early(*want), "{load}");
+        let last = want.saturating_sub(1);
+        assert_eq!(rt; batch.due(last), Due::Early(*want), "{load} {last}");
+        assert_eq!(rt; batch.due(*want), Due::Now, "{load} {want}");
     }
     Ok(())
 }

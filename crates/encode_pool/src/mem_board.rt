@@ -1,11 +1,13 @@
 // A board in memory.
 ghost use Rattle.std.specs.Prelude.{◌≡◌};
-ghost use Rattle.encode_pool.specs.MemBoard.{board_of, empty_board};
+ghost use Rattle.encode_pool.specs.Board.{TakeGives, FileGives, StopGives};
+ghost use Rattle.encode_pool.specs.MemBoard.{new_board, MemoryTakes, MemoryFiles, MemoryStops};
 
 use crate::board::Desk2Work;
 use capture_jobs::{Done, Filed, Job, Taken};
 use std::alloc::Global;
 use std::collections::VecDeque;
+use std::marker::Model;
 use std::snapshot::Snapshot;
 use std::sync::Wait;
 
@@ -27,11 +29,29 @@ pub struct MemBoard {
     stops: u64,
 }
 
+impl Model for MemBoard {
+    ghost use Rattle.std.specs.Option.{option_map};
+    ghost use Rattle.encode_pool.specs.Board.{handed_out};
+    ghost use Rattle.encode_pool.specs.MemBoard.{BoardInMemory};
+
+    ghost Value = { BoardInMemory };
+
+    ghost view = { λ b. record {
+      board = record { held = option_map (λ job. handed_out job.value) b.held; taken = b.taken; filed = b.filed; nothings = b.nothings; stops = b.stops };
+      waiting = b.waiting.items;
+      results = b.results.items;
+      failing = b.failing.items;
+      stopping = b.stopping;
+      filings = b.filings;
+      looks = b.looks;
+    } };
+}
+
 impl MemBoard {
     /// A board with these jobs. The filings in `failing`, counted from 1, find no memory. At look number
     /// `stopping`, counted from 1, it tells the worker to stop.
     pub fn new(alloc: Global, waiting: VecDeque<Job>, failing: Vec<u64>, stopping: u64) -> MemBoard
-        ensures { board_of result ≡ empty_board }
+        ensures { result ≡ new_board waiting.items failing.items stopping }
     {
         MemBoard {
             waiting,
@@ -50,18 +70,19 @@ impl MemBoard {
 
     /// What was filed, in order.
     pub fn results(&self) -> &[Done]
-        ensures { result.now ≡ self.now.results.items }
+        ensures { result.now ≡ self.now.results }
     {
         self.results.as_slice()
     }
 }
 
 impl Desk2Work for MemBoard {
-    ghost use Rattle.encode_pool.specs.MemBoard.{board_of};
+    ghost board = { λ b. b.board };
 
-    ghost board = { board_of };
-
-    fn take_job<R: Wait>(&mut self, _rt: &R) -> Taken {
+    fn take_job<R: Wait>(&mut self, _rt: &R) -> Taken
+        ensures board { TakeGives self.old.board self.new.board result }
+        ensures memory { MemoryTakes self.old self.new result }
+    {
         let Some(job) = self.waiting.pop_front() else {
             self.nothings = self.nothings.saturating_add(1);
             return Taken::Nothing;
@@ -71,7 +92,10 @@ impl Desk2Work for MemBoard {
         Taken::Job(job)
     }
 
-    fn file<R: Wait>(&mut self, _rt: &R, done: Done) -> Filed {
+    fn file<R: Wait>(&mut self, _rt: &R, done: Done) -> Filed
+        ensures board { FileGives self.old.board self.new.board done result }
+        ensures memory { MemoryFiles self.old self.new done result }
+    {
         self.filings = self.filings.saturating_add(1);
         if self.failing.contains(&self.filings) || self.results.reserve(1).is_err() {
             return Filed::Back(done);
@@ -82,7 +106,10 @@ impl Desk2Work for MemBoard {
         Filed::Filed
     }
 
-    fn stopped<R: Wait>(&mut self, _rt: &R) -> bool {
+    fn stopped<R: Wait>(&mut self, _rt: &R) -> bool
+        ensures board { StopGives self.old.board self.new.board result }
+        ensures memory { MemoryStops self.old self.new result }
+    {
         self.looks = self.looks.saturating_add(1);
         if self.looks != self.stopping {
             return false;
