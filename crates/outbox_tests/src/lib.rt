@@ -1,16 +1,12 @@
-//! Tests of what one client has in hand and waiting: its jobs, its draws that are not acknowledged, and
-//! its packets. They stand above the libraries, so that no library is proved twice.
+//! Tests of the packets that wait to be written to one client. They stand above the library, so that it
+//! is not proved twice.
 #![tactic(auto)]
 
 #[cfg(test)]
-mod acks;
-#[cfg(test)]
 mod line;
 #[cfg(test)]
-mod outbox;
+mod many;
 #[cfg(test)]
-mod samples;
+mod reliefs;
 #[cfg(test)]
-mod sequencer;
-#[cfg(test)]
-mod window;
+mod sending;

@@ -1,7 +1,4 @@
 // An outbox and the connection that it writes to.
-ghost use Rattle.std.specs.Prelude.{◌≤◌};
-
-use crate::samples::rectangle;
 use client_outbox::{Draw, Out, Outbox, Packet};
 use link_bay::{Accept, Bay, Inbound, TapeBay};
 use rect_regions::{BitRegion, Points};
@@ -9,7 +6,7 @@ use std::alloc::Global;
 use std::fmt::Write;
 use std::marker::Model;
 use std::test::Fail;
-use xp_base::{Conn, Wid};
+use xp_base::{Coding, Conn, Rect, Wid};
 
 /// More writes than any test makes.
 const WRITES: u32 = 1_000_000;
@@ -63,14 +60,17 @@ impl Line {
         Ok(())
     }
 
-    /// Puts a draw.
-    pub fn put_draw(
-        &mut self,
-        wid: Wid,
-        draw: Draw,
-        bytes: Vec<u8>,
-        relief: BitRegion,
-    ) -> Result<(), Fail> {
+    /// Puts a draw of these bytes, which relieves 4 by 4 points of a window.
+    pub fn put_draw(&mut self, alloc: Global, wid: Wid, bytes: &[u8]) -> Result<(), Fail> {
+        let rect = Rect::new(0, 0, 4, 4).ok_or("a rectangle")?;
+        let draw = Draw {
+            sequence: 1,
+            rect,
+            coding: Coding::Exact,
+        };
+        let mut relief = BitRegion::new(alloc);
+        relief.union_rect(rect)?;
+        let bytes = bytes.to_vec(alloc)?;
         if bytes.is_empty()
             || self
                 .outbox
@@ -82,35 +82,28 @@ impl Line {
         Ok(())
     }
 
-    pub fn send(&mut self, max: u32) -> Out
-        requires { 1 ≤ max }
-    {
-        self.outbox.send(&mut self.bay, Conn(0), max)
+    /// Offers at most so many bytes, and at least one.
+    pub fn send(&mut self, max: u32) -> Out {
+        self.outbox.send(&mut self.bay, Conn(0), max.max(1))
     }
 
     /// Sends until nothing is taken: how many writes took bytes.
-    pub fn send_all(&mut self, max: u32) -> u32
-        requires { 1 ≤ max }
-    {
+    pub fn send_all(&mut self, max: u32) -> u32 {
         for writes in 0..WRITES {
-            match self.send(max) {
-                Out::Took(_) => {}
-                _ => return writes,
+            if !took(self.send(max)) {
+                return writes;
             }
         }
         WRITES
     }
 
-    /// What so many sends come to, one after another.
-    pub fn sends(&mut self, alloc: Global, max: u32, times: u32) -> Result<String, Fail>
-        requires { 1 ≤ max }
-    {
-        let mut out = String::new(alloc);
+    /// Writes what so many sends come to, one after another.
+    pub fn sends(&mut self, out: &mut String, max: u32, times: u32) -> Result<(), Fail> {
         for _ in 0..times {
             let answer = self.send(max);
             write!(out, "{answer:?} ")?;
         }
-        Ok(out)
+        Ok(())
     }
 
     pub fn sent(&self) -> &[u8] {
@@ -122,8 +115,13 @@ impl Line {
     }
 
     /// Whether a draw in the window waits, and one of the waiting ones relieves the point.
-    pub fn waits(&self, wid: Wid, x: u32, y: u32) -> (bool, bool) {
-        (self.outbox.busy(wid), self.outbox.owes(wid, x, y))
+    pub fn waits(&self, wid: Wid, x: u32, y: u32) -> &'static str {
+        match (self.outbox.busy(wid), self.outbox.owes(wid, x, y)) {
+            (true, true) => "owed ",
+            (true, false) => "busy ",
+            (false, false) => "none ",
+            (false, true) => "wrong ",
+        }
     }
 
     pub fn reserve(&mut self, n: u32) -> Result<(), Fail> {
@@ -135,15 +133,30 @@ impl Line {
         self.outbox.forget(wid);
     }
 
-    /// Clips the reliefs of a window: how many points each of its draws then relieves.
-    pub fn clip(&mut self, alloc: Global, wid: Wid, w: u32, h: u32) -> Result<Vec<u64>, Fail> {
-        let rect = rectangle(0, 0, w, h)?;
-        let clipped = self.outbox.clipped(wid, rect.w, rect.h)?;
-        let mut counts = Vec::new(alloc);
+    /// Clips the reliefs of a window, and writes how many points each of its draws then relieves.
+    pub fn clip(&mut self, out: &mut String, wid: Wid, w: u32, h: u32) -> Result<(), Fail> {
+        let size = Rect::new(0, 0, w, h).ok_or("a size")?;
+        let clipped = self.outbox.clipped(wid, size.w, size.h)?;
         for relief in clipped.reliefs.iter() {
-            counts.push(relief.count())?;
+            let count = relief.count();
+            write!(out, "{count} ")?;
         }
         self.outbox.put_clipped(wid, clipped);
-        Ok(counts)
+        Ok(())
     }
+}
+
+fn took(answer: Out) -> bool {
+    match answer {
+        Out::Took(_) => true,
+        _ => false,
+    }
+}
+
+/// Writes bytes as characters.
+pub fn put_text(out: &mut String, bytes: &[u8]) -> Result<(), Fail> {
+    for byte in bytes {
+        out.push(char::from(*byte))?;
+    }
+    Ok(())
 }

@@ -4,7 +4,7 @@ use Rattle.std.proofs.lemmas.Bool.Decides.{nat_tests}
 use Rattle.std.proofs.lemmas.Bool.{cases_lt, cases_Bool}
 use Rattle.std.proofs.lemmas.List.{take-append-drop, drop_more}
 use Rattle.xp_base.specs.Points.{Rectangle, IsRectangle, is_in}
-use Rattle.rect_regions.specs.PointSets.{has, SamePoints, united}
+use Rattle.rect_regions.specs.PointSets.{has, SamePoints, HasAll, united}
 use Rattle.rect_regions.specs.Bands.{Each, GoesBefore}
 use Rattle.rect_regions.specs.Sweeping.{IsSorted, Covers, IsCoveredTo}
 use Rattle.rect_regions.proofs.Rects.{has-append, Each-weaker, IsOrdered-back}
@@ -136,3 +136,13 @@ united_covered_all set others all x y = elim (cases_Bool (has others x y)) [
     or_no : (b : Bool) → (b || false) ≡ b
     or_no true = refl
     or_no false = refl
+
+pub covers_each : (set : ℕ → ℕ → Bool) (others : List Rectangle) → HasAll set (has others) → Each (Covers set) others
+covers_each set [] all = tt
+covers_each set (r ∷ others) all = (
+  λ x y there. all x y (ap (λ (b : Bool). b || has others x y) there),
+  covers_each set others (λ x y there. all x y (ap (λ (b : Bool). is_in r x y || b) there ∙ or_true (is_in r x y))),
+)
+
+pub not_both : (b : Bool) → b ≡ true → b ≡ false → ⊥
+not_both b on off = cc

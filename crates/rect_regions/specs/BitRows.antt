@@ -3,6 +3,9 @@ use Rattle.std.specs.Prelude.{ℕ, ◌*◌, ◌/◌, ◌%◌, ◌≤◌, ◌≡�
 use Rattle.std.specs.List.{range_with_len}
 use Rattle.xp_base.specs.Points.{is_within}
 use Rattle.xp_base.specs.Grid.{place_of}
+use Rattle.rect_regions.specs.PointSets.{SamePoints}
+use Rattle.rect_regions.specs.declared.combination.Combination.{Combination}
+use Rattle.rect_regions.specs.Combinations.{combined}
 
 -- so many columns and rows, and a mark for each point, row by row from the top
 pub record BitRows : Type 0 where
@@ -29,3 +32,7 @@ marks_of wide high test = map (λ k. test (k % wide) (k / wide)) (range_with_len
 -- the columns and rows hold the set
 abbrev pub AllWithin : ℕ → ℕ → (ℕ → ℕ → Bool) → Type 0
 AllWithin wide high set = (x y : ℕ) → set x y ≡ true → is_within wide high x y ≡ true
+
+-- the marks are those of the points of two sets, so combined
+abbrev pub MarksCombined : Combination → (ℕ → ℕ → Bool) → (ℕ → ℕ → Bool) → BitRows → Type 0
+MarksCombined c one other b = SamePoints (has_mark b) (combined c one other)

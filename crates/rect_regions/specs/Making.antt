@@ -1,7 +1,8 @@
 -- Row-band lists that are being made, from top to bottom.
-use Rattle.std.specs.Prelude.{ℕ, ◌≡◌, ◌<◌, ◌≤◌, ◌+◌, ◌-◌, ◌==◌, Bool, true, false, ◌&&◌, ◌||◌, nat_le, nat_lt, List, [], ◌∷◌, ◌++◌, length, if◌then◌else◌}
+use Rattle.std.specs.Prelude.{ℕ, ◌≡◌, ◌<◌, ◌≤◌, ◌+◌, ◌-◌, ◌==◌, Bool, true, false, ◌&&◌, ◌||◌, nat_le, nat_lt, List, [], ◌∷◌, ◌++◌, length, map, take, drop, if◌then◌else◌}
 use Rattle.xp_base.specs.Points.{Rectangle, IsRectangle}
 use Rattle.rect_regions.specs.Bands.{Each, IsOrdered, IsBanded}
+use Rattle.rect_regions.specs.BitRows.{BitRows, has_mark}
 
 -- the rectangle has this column; one of them has it; the rectangle has this row
 abbrev pub in_columns : Rectangle → ℕ → Bool
@@ -73,6 +74,10 @@ pub record AppendsBand (old new : List Rectangle) (top bottom : ℕ) (row : ℕ 
   pub shape : IsBand top bottom band
   pub same : (x : ℕ) → columns band x ≡ row x
 
+-- a band of one row was appended that has the columns of the marks in it
+abbrev pub AppendsMarks : List Rectangle → List Rectangle → BitRows → ℕ → Type 0
+AppendsMarks old new b y = AppendsBand old new y (y + 1) (λ x. has_mark b x y)
+
 -- the same as far as the columns below `limit`; those from there to `x` are of a run that has not ended
 pub record RunsSoFar (old new : List Rectangle) (top bottom : ℕ) (row : ℕ → Bool) (limit x : ℕ) : Type 0 where
   pub band : List Rectangle
@@ -86,6 +91,10 @@ pub record RunsSoFar (old new : List Rectangle) (top bottom : ℕ) (row : ℕ �
 -- the rectangle as far down as this row
 abbrev pub lengthened : ℕ → Rectangle → Rectangle
 lengthened bottom r = record { x = r.x; y = r.y; w = r.w; h = bottom - r.y }
+
+-- the list, whose rectangles from a place on reach down to this row
+abbrev pub lengthened_from : ℕ → ℕ → List Rectangle → List Rectangle
+lengthened_from from bottom rects = take from rects ++ map (lengthened bottom) (drop from rects)
 
 -- a band from this row on follows right below the one before it, with the same runs
 abbrev pub goes_on : List Rectangle → List Rectangle → ℕ → Bool

@@ -13,6 +13,10 @@ SamePoints one other = (x y : ℕ) → one x y ≡ other x y
 abbrev pub HasNone : (ℕ → ℕ → Bool) → Type 0
 HasNone set = (x y : ℕ) → set x y ≡ false
 
+-- the set has all points of the other
+abbrev pub HasAll : (ℕ → ℕ → Bool) → (ℕ → ℕ → Bool) → Type 0
+HasAll set other = (x y : ℕ) → other x y ≡ true → set x y ≡ true
+
 -- every point lies in the square that every rectangle lies in
 abbrev pub IsLimited : (ℕ → ℕ → Bool) → Type 0
 IsLimited set = (x y : ℕ) → set x y ≡ true → (x < 4096) × (y < 4096)

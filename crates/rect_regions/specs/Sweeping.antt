@@ -5,7 +5,7 @@ use Rattle.rect_regions.specs.PointSets.{has, SamePoints}
 use Rattle.rect_regions.specs.Bands.{Each, IsOrdered, BeginsAnew}
 use Rattle.rect_regions.specs.declared.combination.Combination.{Combination}
 use Rattle.rect_regions.specs.Combinations.{keeps, combined}
-use Rattle.rect_regions.specs.Making.{in_rows, columns, EndsBy, IsMade, Gaps}
+use Rattle.rect_regions.specs.Making.{in_rows, columns, EndsBy, IsMade, Gaps, AppendsBand}
 
 -- rectangles in the order of a row-band list; the runs of a band
 pub record IsSorted (rects : List Rectangle) : Type 0 where
@@ -83,6 +83,10 @@ IsCombined c one other rects = SamePoints (has rects) (combined c (has one) (has
 
 abbrev pub combined_row : Combination → List Rectangle → List Rectangle → ℕ → Bool
 combined_row c one other x = keeps c (columns one x) (columns other x)
+
+-- a band of these rows was appended that has the runs of two bands, so combined
+abbrev pub AppendsRuns : Combination → List Rectangle → List Rectangle → List Rectangle → List Rectangle → ℕ → ℕ → Type 0
+AppendsRuns c one other old new top bottom = AppendsBand old new top bottom (combined_row c one other)
 
 -- what is kept of rectangles of the one list where the other has nothing
 abbrev pub kept_alone : Combination → List Rectangle → List Rectangle

@@ -1,9 +1,9 @@
 // Row-band lists in the making: one band after another is appended from top to bottom, and joined to
 // the band above it where it goes on as that does.
-ghost use Rattle.std.specs.Prelude.{◌≡◌, ◌≤◌, ◌<◌, ◌+◌, ◌-◌, ◌++◌, ◌==◌, ◌&&◌, length, map, take, drop, OnOk};
+ghost use Rattle.std.specs.Prelude.{◌≡◌, ◌≤◌, ◌<◌, ◌+◌, ◌-◌, ◌==◌, ◌&&◌, length, drop, OnOk};
 ghost use Rattle.rect_regions.specs.PointSets.{has, SamePoints};
 ghost use Rattle.rect_regions.specs.Bands.{Each};
-ghost use Rattle.rect_regions.specs.Making.{IsMade, IsExtended, IsBand, same_runs, lengthened, goes_on, with_run};
+ghost use Rattle.rect_regions.specs.Making.{IsMade, IsExtended, IsBand, same_runs, lengthened, lengthened_from, goes_on, with_run};
 
 use xp_base::{NoMemory, Rect};
 
@@ -58,7 +58,7 @@ fn lengthen(rects: &mut Vec<Rect>, from: usize, bottom: u32)
     requires from { from ≤ length rects.old.items }
     requires above { Each (λ r. r.y < bottom) (drop from rects.old.items) }
     requires limit { bottom ≤ 4096 }
-    ensures { rects.new.items ≡ take from rects.old.items ++ map (lengthened bottom) (drop from rects.old.items) }
+    ensures { rects.new.items ≡ lengthened_from from bottom rects.old.items }
 {
     for i in from..rects.len() {
         let r = rects[i];

@@ -1,7 +1,6 @@
 // The runs of a row of truth values.
 ghost use Rattle.std.specs.Prelude.{◌≡◌, ◌≤◌, ◌<◌, ◌+◌, ◌-◌, OnOk};
-ghost use Rattle.rect_regions.specs.BitRows.{has_mark};
-ghost use Rattle.rect_regions.specs.Making.{AppendsBand};
+ghost use Rattle.rect_regions.specs.Making.{AppendsMarks};
 
 use crate::bands::end_run;
 use crate::bit_region::BitRegion;
@@ -11,7 +10,7 @@ use xp_base::{NoMemory, Rect};
 /// Appends the runs of a row, each as a rectangle.
 pub fn append_row(rects: &mut Vec<Rect>, bits: &BitRegion, y: u32) -> Result<(), NoMemory>
     requires { y < bits.now.high }
-    ensures { OnOk result (AppendsBand rects.old.items rects.new.items y (y + 1) (λ x. has_mark bits.now x y)) }
+    ensures { OnOk result (AppendsMarks rects.old.items rects.new.items bits.now y) }
 {
     let wide = bits.wide();
     // The columns from here on to `x` are of a run that has not ended.

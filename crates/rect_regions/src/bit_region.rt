@@ -3,7 +3,7 @@ ghost use Rattle.std.specs.Prelude.{◌≡◌, ◌≤◌, ◌<◌, ℕ, IfOk, if
 ghost use Rattle.xp_base.specs.Points.{is_in};
 ghost use Rattle.rect_regions.specs.PointSets.{SamePoints, count_row};
 ghost use Rattle.rect_regions.specs.Combinations.{combined};
-ghost use Rattle.rect_regions.specs.BitRows.{IsBitRows, has_mark, IsSize, AllWithin};
+ghost use Rattle.rect_regions.specs.BitRows.{IsBitRows, has_mark, IsSize, AllWithin, MarksCombined};
 
 use crate::bands::join_band;
 use crate::bit_rects::append_row;
@@ -96,7 +96,7 @@ impl BitRegion {
     ) -> Result<BitRegion, NoMemory>
         requires size { IsSize wide high }
         requires all { AllWithin wide high (combined combination (has_mark self.now) (T.test other.now)) }
-        ensures { IfOk result (λ b. SamePoints (has_mark b) (combined combination (has_mark self.now) (T.test other.now))) }
+        ensures { IfOk result (MarksCombined combination (has_mark self.now) (T.test other.now)) }
     {
         let points = Combined {
             combination,

@@ -1,10 +1,10 @@
 // A set of points as bands of rectangles.
-ghost use Rattle.std.specs.Prelude.{◌≡◌, IfOk, length};
+ghost use Rattle.std.specs.Prelude.{◌≡◌, IfOk, OnOk, OnErr, IsOk, length};
 ghost use Rattle.xp_base.specs.Points.{is_in};
-ghost use Rattle.rect_regions.specs.PointSets.{has, SamePoints};
+ghost use Rattle.rect_regions.specs.PointSets.{has, SamePoints, HasAll, united};
 ghost use Rattle.rect_regions.specs.Bands.{IsBanded};
 ghost use Rattle.rect_regions.specs.Combinations.{combined};
-ghost use Rattle.rect_regions.specs.Sweeping.{IsSorted, IsCombined};
+ghost use Rattle.rect_regions.specs.Sweeping.{IsSorted, IsCombined, Covers};
 
 use crate::band_covers::{covers, covers_all};
 use crate::band_search::has_point;
@@ -96,7 +96,12 @@ impl Points for Region {
         self.rects.clear();
     }
 
-    fn union_rect(&mut self, r: Rect) -> Result<(), NoMemory> {
+    /// With what is there already it finds memory, since it asks for none.
+    fn union_rect(&mut self, r: Rect) -> Result<(), NoMemory>
+        ensures ok { OnOk result (SamePoints (has self.new) (united (has self.old) (is_in r))) }
+        ensures err { OnErr result (SamePoints (has self.new) (has self.old)) }
+        ensures free { Covers (has self.old) r → IsOk result }
+    {
         if covers(self.list(), r) {
             return Ok(());
         }
@@ -104,7 +109,12 @@ impl Points for Region {
         Ok(())
     }
 
-    fn union(&mut self, o: &Region) -> Result<(), NoMemory> {
+    /// With what is there already it finds memory, since it asks for none.
+    fn union(&mut self, o: &Region) -> Result<(), NoMemory>
+        ensures ok { OnOk result (SamePoints (has self.new) (united (has self.old) (has o.now))) }
+        ensures err { OnErr result (SamePoints (has self.new) (has self.old)) }
+        ensures free { HasAll (has self.old) (has o.now) → IsOk result }
+    {
         if covers_all(self.list(), o.list()) {
             return Ok(());
         }

@@ -1,8 +1,7 @@
 // The runs of two bands, combined from left to right.
 ghost use Rattle.std.specs.Prelude.{◌≡◌, ◌≤◌, ◌<◌, ◌+◌, OnOk};
 ghost use Rattle.rect_regions.specs.Bands.{Each};
-ghost use Rattle.rect_regions.specs.Making.{AppendsBand};
-ghost use Rattle.rect_regions.specs.Sweeping.{IsRuns, IsRightOf, IsRun, combined_row};
+ghost use Rattle.rect_regions.specs.Sweeping.{IsRuns, IsRightOf, IsRun, AppendsRuns};
 
 use crate::bands::end_run;
 use crate::combination::Combination;
@@ -29,7 +28,7 @@ pub fn append_combined(
     requires one { IsRuns one.now }
     requires other { IsRuns other.now }
     ensures { OnOk result
-        (AppendsBand rects.old.items rects.new.items top bottom (combined_row combination one.now other.now)) }
+        (AppendsRuns combination one.now other.now rects.old.items rects.new.items top bottom) }
 {
     let limit = combination.limit(right_end(one), right_end(other));
     let mut one_left = one;
