@@ -6,10 +6,11 @@ ghost use Rattle.paint_script.specs.Validity.{IsPaintOn, IsMoveOn};
 ghost use Rattle.attached_client.specs.declared.change.Change.TheVariants as C;
 ghost use Rattle.line_changes.specs.Changes.{IsChangeOf, IsMoveOf, resizes};
 
+use crate::desktop::rect_of;
 use attached_client::Change;
 use script_lines::Paint;
 use window_model::{Desk, Geometry};
-use xp_base::{Rect, Wid};
+use xp_base::Wid;
 
 /// What the line is to a client, on the desktop that it meets. A fill, a copy and noise are the rectangle whose pixels
 /// they change: that of a copy has its target's corner. The change of a `resize` is to come.
@@ -59,10 +60,7 @@ fn damaged(wid: Wid, x: u32, y: u32, w: u32, h: u32) -> Change
     requires { IsRectangle (rectangle x y w h) }
     ensures { result ≡ C.Damaged wid (rectangle x y w h) }
 {
-    let Some(r) = Rect::new(x, y, w, h) else {
-        unreachable!()
-    };
-    Change::Damaged(wid, r)
+    Change::Damaged(wid, rect_of(x, y, w, h))
 }
 
 /// A window that has its size has another place.

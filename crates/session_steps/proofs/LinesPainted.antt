@@ -13,18 +13,19 @@ use Rattle.attached_client.specs.declared.change.Change.{Change}
 use Rattle.attached_client.specs.declared.change.Change.TheVariants as C
 use Rattle.attached_client.specs.Client.{ClientSeen}
 use Rattle.attached_client.specs.Laws.{mark_in, mark_on}
-use Rattle.attached_client.specs.ChangeLaws.{ChangeStays, ChangeMarks, begun_mark, changed_mark}
+use Rattle.attached_client.specs.ChangeLaws.{ChangeFits, ChangeStays, ChangeMarks, begun_mark, changed_mark}
 use Rattle.attached_client.specs.Changes.{ClientChanges}
 use Rattle.attached_client.specs.Desktops.{DeskChanges, NumbersChange}
 use Rattle.open_connection.specs.Connection.{ConnectionSeen}
 use Rattle.open_connection.specs.Changing.{ChangesIn, ConnectionChanges}
-use Rattle.open_connection.specs.Laws.{ChangingTells}
+use Rattle.open_connection.specs.Laws.{IsToldTo, ChangingTells}
+use Rattle.connection_steps.specs.Kept.{IsConnection}
 use Rattle.connection_steps.specs.Laws.{OpensMore, MarksStay, ClientStays, ChangingKeeps, KeptOwesWhatDiffers}
 use Rattle.session_steps.specs.Slots.{Slots}
 use Rattle.session_steps.specs.Seen.{Known, Seen}
-use Rattle.session_steps.specs.Painting.{ChangesSlot, ChangesSlots, Paints}
+use Rattle.session_steps.specs.Painting.{ChangesSlot, ChangesSlots, FitsSeen, Paints}
 use Rattle.session_steps.specs.Steady.{IsSlot, AreSlots, IsSteady}
-use Rattle.session_steps.specs.Laws.{PaintKeeps, SessionOwesWhatDiffers}
+use Rattle.session_steps.specs.Laws.{PaintKeeps, PaintFits, SessionOwesWhatDiffers}
 use Rattle.session_steps.proofs.Places.{open_slot}
 
 -- numbers are only opened more
@@ -135,6 +136,18 @@ module _ (changing : ChangingKeeps) (tells_so : ChangingTells) (stays : ChangeSt
 pub paint_keeps : ChangingKeeps → ChangingTells → ChangeStays → ChangeMarks → {B : Type 0} → PaintKeeps B
 paint_keeps changing tells_so stays marks known was_opened is_opened change desk' old new desktop holds desks numbers paints steady =
     subst (IsSteady known is_opened) (sym paints.rest) (painted_steady changing tells_so stays marks known was_opened is_opened change desk' old desktop holds desks numbers steady new.slots paints.slots)
+
+pub paint_fits : ChangeFits → {B : Type 0} → PaintFits B
+paint_fits fits known were_opened change desk' s desks steady j c at = go c.client refl
+  where
+    kept : IsConnection known.tells s.desk were_opened j (known.connection s.bay j) c
+    kept = steady.slots j (Open c) (open_slot s.slots j c at)
+
+    go : (o : Option ClientSeen) → c.client ≡ o → FitsSeen change o
+    go None is = tt
+    go (Some client) is =
+        let told = subst (λ (p : Option ClientSeen). IsToldTo s.desk were_opened j p kept.sent) is kept.client in
+        fits s.desk desk' were_opened change client kept.sent desks told.1
 
 pub session_owes : KeptOwesWhatDiffers → {B : Type 0} → SessionOwesWhatDiffers B
 session_owes owes known were_opened s k c client steady at is =

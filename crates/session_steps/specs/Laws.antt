@@ -19,7 +19,7 @@ use Rattle.session_steps.specs.Seen.{Known, Seen, ticked}
 use Rattle.session_steps.specs.Accepting.{Accepts}
 use Rattle.session_steps.specs.Reading.{Receives}
 use Rattle.session_steps.specs.Sending.{Sends}
-use Rattle.session_steps.specs.Painting.{Paints}
+use Rattle.session_steps.specs.Painting.{AllFit, Paints}
 use Rattle.session_steps.specs.Steady.{IsSteady}
 
 -- a session before its first step
@@ -51,6 +51,10 @@ abbrev pub PaintKeeps : Type 0 → Type 0
 PaintKeeps B = (known : Known B) (was_opened is_opened : ℕ → Bool) (change : Change) (desk' : List Window) (old new : Seen B) → IsDesktop desk' → HoldsDesk desk' is_opened
     → DeskChanges change old.desk desk' → NumbersChange change was_opened is_opened → Paints change desk' old new
     → IsSteady known was_opened old → IsSteady known is_opened new
+
+-- what the line needs of each client is there
+abbrev pub PaintFits : Type 0 → Type 0
+PaintFits B = (known : Known B) (were_opened : ℕ → Bool) (change : Change) (desk' : List Window) (s : Seen B) → DeskChanges change s.desk desk' → IsSteady known were_opened s → AllFit change s.slots
 
 -- each pixel in which the picture of an attached client, read from the bytes sent to it, differs from the desktop is owed by its source
 abbrev pub SessionOwesWhatDiffers : Type 0 → Type 0

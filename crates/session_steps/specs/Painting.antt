@@ -1,8 +1,10 @@
 -- A paint line: every open connection meets the change that it is, at the moment of the clock.
-use Rattle.std.specs.Prelude.{ℕ, ◌≡◌, List, [], ◌∷◌}
+use Rattle.std.specs.Prelude.{ℕ, ◌≡◌, Option, Some, None, List, [], ◌∷◌}
 use Rattle.window_model.specs.Desktop.{Window}
 use Rattle.attached_client.specs.declared.change.Change.{Change}
-use Rattle.connection_table.specs.Tables.{Slot, Open, Away, Ended}
+use Rattle.attached_client.specs.Client.{ClientSeen}
+use Rattle.attached_client.specs.Changes.{Fits}
+use Rattle.connection_table.specs.Tables.{Slot, Open, Away, Ended, open_at}
 use Rattle.connection_ends.specs.declared.end.End.{End}
 use Rattle.open_connection.specs.Connection.{ConnectionSeen}
 use Rattle.open_connection.specs.Changing.{ConnectionChanges}
@@ -21,6 +23,15 @@ ChangesSlots change now [] [] = Unit {0}
 ChangesSlots change now [] (slot' ∷ slots') = ⊥
 ChangesSlots change now (slot ∷ slots) [] = ⊥
 ChangesSlots change now (slot ∷ slots) (slot' ∷ slots') = ChangesSlot change now slot slot' × ChangesSlots change now slots slots'
+
+-- what the change needs of a client is there
+abbrev pub FitsSeen : Change → Option ClientSeen → Type 0
+FitsSeen change None = Unit {0}
+FitsSeen change (Some client) = Fits change client.seen
+
+-- of each that is open
+abbrev pub AllFit : Change → Slots → Type 0
+AllFit change slots = (j : ℕ) (c : ConnectionSeen) → open_at slots j ≡ Some c → FitsSeen change c.client
 
 -- the desktop becomes this one
 pub record Paints {B : Type 0} (change : Change) (desk' : List Window) (old new : Seen B) : Type 0 where

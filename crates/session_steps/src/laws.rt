@@ -7,6 +7,7 @@ ghost use Rattle.session_steps.specs.Laws.{
   ReceiveKeeps,
   SendKeeps,
   PaintKeeps,
+  PaintFits,
   SessionOwesWhatDiffers,
 };
 
@@ -57,9 +58,10 @@ pub fn a_write_keeps_a_session<B>()
     causes_stay();
 }
 
-/// A paint line, which changes the desktop and the numbers opened so far as it says.
+/// A paint line, which changes the desktop and the numbers opened so far as it says; what it needs of each client is there.
 pub fn a_paint_line_keeps_a_session<B>()
-    ensures { PaintKeeps B }
+    ensures keeps { PaintKeeps B }
+    ensures fits { PaintFits B }
 {
     a_paint_line_keeps_a_connection();
     a_change_keeps_a_connection();
