@@ -1,7 +1,8 @@
 -- The counts of one connection, kept by a provider.
-use Rattle.std.specs.Prelude.{ℕ, if◌then◌else◌, max, Option, Some, None, List}
+use Rattle.std.specs.Prelude.{ℕ, if◌then◌else◌, max, Option, Some, None, List, length, slice_get}
 use Rattle.xp_base.specs.Counts.{count_sum}
 use Rattle.link_bay.specs.Connections.{ConnectionRecord}
+use Rattle.link_bay.specs.Provider.{ProviderRecord}
 use Rattle.link_bay.specs.Answers.{is_dry, drought_after}
 use Rattle.link_bay.specs.declared.counters.Counters.{Counters}
 
@@ -36,3 +37,10 @@ with_counts sent given heard k = record {
 abbrev pub mute_connection : Option Counters → ConnectionRecord
 mute_connection None = with_counts None None None no_counts
 mute_connection (Some k) = with_counts None None None k
+
+-- the connections and the provider of clients of which only counts are kept
+abbrev pub mutes_connection : List Counters → ℕ → ConnectionRecord
+mutes_connection clients c = mute_connection (slice_get clients c)
+
+abbrev pub mutes_provider : List Counters → ℕ → ℕ → ProviderRecord
+mutes_provider clients room lulls = record { count = length clients; asked = None; room = room; faults = 0; lulls = lulls }

@@ -1,6 +1,8 @@
 // A provider that tells nothing, as sockets do.
-ghost use Rattle.std.specs.Prelude.{◌≡◌, ◌+◌, ◌<◌, ◌^◌, false, None, length, slice_get};
-ghost use Rattle.link_bay.specs.Counted.{mute_connection};
+ghost use Rattle.std.specs.Prelude.{◌≡◌, ◌+◌, ◌<◌, ◌^◌, false, length, min};
+ghost use Rattle.link_bay.specs.Answers.{WriteGives};
+ghost use Rattle.link_bay.specs.Connections.{OthersStay};
+ghost use Rattle.link_bay.specs.Counted.{mutes_connection, mutes_provider};
 ghost use Rattle.link_bay.specs.Provider.{IsFresh};
 
 use crate::bay::{Accept, Bay, Gave, Wrote};
@@ -22,7 +24,7 @@ pub struct MuteBay {
 impl MuteBay {
     /// Nobody was handed out yet, and `room` clients may be.
     pub fn new(alloc: Global, room: u32, quota: u32) -> MuteBay
-        ensures fresh { IsFresh (record { count = length result.clients.items; asked = None; room = result.room; faults = 0; lulls = result.lulls }) }
+        ensures fresh { IsFresh (mutes_provider result.clients.items result.room result.lulls) }
         ensures room { result.room ≡ room }
         ensures quota { result.quota ≡ quota }
     {
@@ -38,9 +40,9 @@ impl MuteBay {
 impl Bay for MuteBay {
     ghost tells = { false };
 
-    ghost connection = { λ b c. mute_connection (slice_get b.clients.items c) };
+    ghost connection = { λ b. mutes_connection b.clients.items };
 
-    ghost provider = { λ b. record { count = length b.clients.items; asked = None; room = b.room; faults = 0; lulls = b.lulls } };
+    ghost provider = { λ b. mutes_provider b.clients.items b.room b.lulls };
 
     fn accept(&mut self) -> Accept {
         if self.room == 0 {
@@ -61,7 +63,13 @@ impl Bay for MuteBay {
         Gave::Again
     }
 
-    fn write(&mut self, c: Conn, piece: &[u8]) -> Wrote {
+    fn write(&mut self, c: Conn, piece: &[u8]) -> Wrote
+        requires known { c.0 < length self.old.clients.items }
+        ensures exact { (result ≡ Wrote.Took (min (length piece.now) self.old.quota)) × (self.new.quota ≡ self.old.quota) }
+        ensures answer { WriteGives (mutes_connection self.old.clients.items c.0) (mutes_connection self.new.clients.items c.0) piece.now result }
+        ensures others { OthersStay (mutes_connection self.old.clients.items) (mutes_connection self.new.clients.items) c.0 }
+        ensures provider { mutes_provider self.new.clients.items self.new.room self.new.lulls ≡ mutes_provider self.old.clients.items self.old.room self.old.lulls }
+    {
         let taken = piece.len().min(self.quota as usize) as u32;
         let client = &mut self.clients[c.0 as usize];
         client.took(piece, taken);

@@ -1,9 +1,13 @@
-use Rattle.std.proofs.Common.{arith}
+use Rattle.std.proofs.Common.{arith, refl}
+use Rattle.std.proofs.lemmas.Grind.{common_steps}
 use Rattle.link_bay.proofs.Places.{slice_get-set_same, slice_get-set_other, slice_get_here}
 use Rattle.link_bay.proofs.Counts.{mute_took}
 use Rattle.link_bay.specs.Counted.{mute_connection}
 use Rattle.std.proofs.Common.{ap}
 use Rattle.link_bay.proofs.mute_bay.MuteBayBay.write.Goals as goal
+
+pub returns-clause-exact : goal.returns-clause-exact
+returns-clause-exact c = (grind (arith, common_steps), refl)
 
 pub returns-clause-answer : goal.returns-clause-answer
 returns-clause-answer c =
