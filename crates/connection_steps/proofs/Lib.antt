@@ -3,3 +3,4 @@ pub mod Hearing
 pub mod Sending
 pub mod Greeting
 pub mod Changing
+pub mod Rest

@@ -3,9 +3,11 @@
 #![tactic(auto)]
 
 mod laws;
+mod resting;
 
 pub use laws::{
     a_paint_line_keeps_a_connection, a_refused_client_gets_its_goodbye, a_write_keeps_a_connection,
     an_accepted_connection_is_kept, an_attached_client_has_greeted, differing_pixels_are_owed,
     hearing_keeps_a_connection, what_ends_a_talk_was_given,
 };
+pub use resting::a_client_at_rest_shows_the_desktop;

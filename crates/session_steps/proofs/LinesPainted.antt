@@ -24,7 +24,7 @@ use Rattle.connection_steps.specs.Laws.{OpensMore, MarksStay, ClientStays, Chang
 use Rattle.session_steps.specs.Slots.{Slots}
 use Rattle.session_steps.specs.Seen.{Known, Seen}
 use Rattle.session_steps.specs.Painting.{ChangesSlot, ChangesSlots, FitsSeen, Paints}
-use Rattle.session_steps.specs.Steady.{IsSlot, AreSlots, IsSteady}
+use Rattle.session_steps.specs.Steady.{Phase, Stepping, IsSlot, AreSlots, IsSteady}
 use Rattle.session_steps.specs.Laws.{PaintKeeps, PaintFits, SessionOwesWhatDiffers}
 use Rattle.session_steps.proofs.Places.{open_slot}
 
@@ -104,17 +104,17 @@ module _ (change : Change) (now : ℕ) where
   change_at (s ∷ slots) (s' ∷ slots') is (suc j) slot' found = change_at slots slots' is.1 j slot' found
 
 module _ (changing : ChangingKeeps) (tells_so : ChangingTells) (stays : ChangeStays) (marks : ChangeMarks) {B : Type 0} (known : Known B) (was_opened is_opened : ℕ → Bool) (change : Change) (desk' : List Window) (s : Seen B)
-    (desktop : IsDesktop desk') (holds : HoldsDesk desk' is_opened) (desks : DeskChanges change s.desk desk') (numbers : NumbersChange change was_opened is_opened) (steady : IsSteady known was_opened s) where
-  one : (j : ℕ) (slot slot' : Slot ConnectionSeen End) → ChangesSlot change s.clock slot slot' → IsSlot known.tells s.desk was_opened (known.connection s.bay) (length s.slots) j slot
-      → IsSlot known.tells desk' is_opened (known.connection s.bay) (length s.slots) j slot'
-  one j (Open c) slot' is kept = subst (IsSlot known.tells desk' is_opened (known.connection s.bay) (length s.slots) j) (sym is.1)
+    (desktop : IsDesktop desk') (holds : HoldsDesk desk' is_opened) (desks : DeskChanges change s.desk desk') (numbers : NumbersChange change was_opened is_opened) (steady : IsSteady known Stepping was_opened s) where
+  one : (j : ℕ) (slot slot' : Slot ConnectionSeen End) → ChangesSlot change s.clock slot slot' → IsSlot known.tells Stepping s.desk was_opened (known.connection s.bay) (length s.slots) j slot
+      → IsSlot known.tells Stepping desk' is_opened (known.connection s.bay) (length s.slots) j slot'
+  one j (Open c) slot' is kept = subst (IsSlot known.tells Stepping desk' is_opened (known.connection s.bay) (length s.slots) j) (sym is.1)
       (changing known.tells s.desk desk' was_opened is_opened j (known.connection s.bay j) c is.0 (opens_more change was_opened is_opened numbers) is.2.framing
       (client_stays stays marks change s.clock was_opened is_opened c.client _ numbers is.2.client)
       (λ sent told. tells_so s.desk desk' was_opened is_opened j s.clock change c.client _ sent steady.desktop desks numbers is.2.client told) kept)
   one j Away slot' is kept = absurd kept
-  one j (Ended e) slot' is kept = subst (IsSlot known.tells desk' is_opened (known.connection s.bay) (length s.slots) j) (sym is) kept
+  one j (Ended e) slot' is kept = subst (IsSlot known.tells Stepping desk' is_opened (known.connection s.bay) (length s.slots) j) (sym is) kept
 
-  pub painted_steady : (slots' : Slots) → ChangesSlots change s.clock s.slots slots' → IsSteady known is_opened (record s { desk = desk'; slots = slots' })
+  pub painted_steady : (slots' : Slots) → ChangesSlots change s.clock s.slots slots' → IsSteady known Stepping is_opened (record s { desk = desk'; slots = slots' })
   painted_steady slots' changes = record {
     desktop = desktop;
     holds = holds;
@@ -123,22 +123,23 @@ module _ (changing : ChangingKeeps) (tells_so : ChangingTells) (stays : ChangeSt
     few = let most = steady.few in let same = many.1 in omega (arith, most, same);
     failed = steady.failed;
     slots = slots;
+    since = tt;
   }
     where
       many : (length slots' ≡ length s.slots) × (open_count slots' ≡ open_count s.slots)
       many = as_many change s.clock s.slots slots' changes
 
-      slots : AreSlots known.tells desk' is_opened (known.connection s.bay) (length slots') slots'
+      slots : AreSlots known.tells Stepping desk' is_opened (known.connection s.bay) (length slots') slots'
       slots j slot' found =
           let was = change_at change s.clock s.slots slots' changes j slot' found in
-          subst (λ n. IsSlot known.tells desk' is_opened (known.connection s.bay) n j slot') (sym many.0) (one j was.0 slot' was.2 (steady.slots j was.0 was.1))
+          subst (λ n. IsSlot known.tells Stepping desk' is_opened (known.connection s.bay) n j slot') (sym many.0) (one j was.0 slot' was.2 (steady.slots j was.0 was.1))
 
 pub paint_keeps : ChangingKeeps → ChangingTells → ChangeStays → ChangeMarks → {B : Type 0} → PaintKeeps B
 paint_keeps changing tells_so stays marks known was_opened is_opened change desk' old new desktop holds desks numbers paints steady =
-    subst (IsSteady known is_opened) (sym paints.rest) (painted_steady changing tells_so stays marks known was_opened is_opened change desk' old desktop holds desks numbers steady new.slots paints.slots)
+    subst (IsSteady known Stepping is_opened) (sym paints.rest) (painted_steady changing tells_so stays marks known was_opened is_opened change desk' old desktop holds desks numbers steady new.slots paints.slots)
 
 pub paint_fits : ChangeFits → {B : Type 0} → PaintFits B
-paint_fits fits known were_opened change desk' s desks steady j c at = go c.client refl
+paint_fits fits known phase were_opened change desk' s desks steady j c at = go c.client refl
   where
     kept : IsConnection known.tells s.desk were_opened j (known.connection s.bay j) c
     kept = steady.slots j (Open c) (open_slot s.slots j c at)
@@ -150,5 +151,5 @@ paint_fits fits known were_opened change desk' s desks steady j c at = go c.clie
         fits s.desk desk' were_opened change client kept.sent desks told.1
 
 pub session_owes : KeptOwesWhatDiffers → {B : Type 0} → SessionOwesWhatDiffers B
-session_owes owes known were_opened s k c client steady at is =
+session_owes owes known phase were_opened s k c client steady at is =
     owes known.tells s.desk were_opened k (known.connection s.bay k) c client steady.desktop is (steady.slots k (Open c) (open_slot s.slots k c at))

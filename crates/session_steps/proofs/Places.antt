@@ -34,6 +34,18 @@ push_at (x ∷ xs) (suc k) new a is = go (push_at xs k new a is)
     go (inl here) = inl (ap suc here.0, here.1)
     go (inr there) = let low = there.0 in inr (omega (arith, low), there.1)
 
+pub get_front : {A : Type 0} (xs ys : List A) (k : ℕ) (a : A) → slice_get xs k ≡ Some a → slice_get (xs ++ ys) k ≡ Some a
+get_front [] ys k a is = absurd (cc is)
+get_front (x ∷ xs) ys zero a is = is
+get_front (x ∷ xs) ys (suc k) a is = get_front xs ys k a is
+
+pub set_keeps : {A : Type 0} (xs : List A) (n k : ℕ) (new a : A) → k ≢ n → slice_get xs k ≡ Some a → slice_get (set xs n new) k ≡ Some a
+set_keeps [] n k new a apart is = absurd (cc is)
+set_keeps (x ∷ xs) zero zero new a apart is = absurd (apart refl)
+set_keeps (x ∷ xs) zero (suc k) new a apart is = is
+set_keeps (x ∷ xs) (suc n) zero new a apart is = is
+set_keeps (x ∷ xs) (suc n) (suc k) new a apart is = set_keeps xs n k new a (λ same. apart (ap suc same)) is
+
 -- the first ones changed
 pub first_long : {A : Type 0} (change : A → A) (n : ℕ) (xs : List A) → length (change_first change n xs) ≡ length xs
 first_long change zero xs = refl
@@ -50,6 +62,12 @@ first_at change (suc n) (x ∷ xs) (suc k) a is = go (first_at change n xs k a i
     go : ((k < n) × ((b : _) × (slice_get xs k ≡ Some b) × (a ≡ change b))) ⊎ (slice_get xs k ≡ Some a) → ((suc k < suc n) × ((b : _) × (slice_get xs k ≡ Some b) × (a ≡ change b))) ⊎ (slice_get xs k ≡ Some a)
     go (inl early) = let low = early.0 in inl (omega (arith, low), early.1)
     go (inr late) = inr late
+
+pub first_fixed : {A : Type 0} (change : A → A) (n : ℕ) (xs : List A) (k : ℕ) (a : A) → change a ≡ a → slice_get xs k ≡ Some a → slice_get (change_first change n xs) k ≡ Some a
+first_fixed change zero xs k a fixed is = is
+first_fixed change (suc n) [] k a fixed is = absurd (cc is)
+first_fixed change (suc n) (x ∷ xs) zero a fixed is = ap (λ y. Some (change y)) (some_same x a is) ∙ ap (λ y. Some y) fixed
+first_fixed change (suc n) (x ∷ xs) (suc k) a fixed is = first_fixed change n xs k a fixed is
 
 pub first_behind : {A : Type 0} (change : A → A) (n : ℕ) (xs : List A) (k : ℕ) → n ≤ k → slice_get (change_first change n xs) k ≡ slice_get xs k
 first_behind change zero xs k low = refl

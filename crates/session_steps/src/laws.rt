@@ -12,7 +12,7 @@ ghost use Rattle.session_steps.specs.Laws.{
 };
 
 use attached_client::{a_change_keeps_a_client, a_change_keeps_marks};
-use connection_ends::causes_stay;
+use connection_ends::{causes_count_from_earlier, causes_stay, only_settled_speaks_of_the_desktop};
 use connection_steps::{
     a_paint_line_keeps_a_connection, a_refused_client_gets_its_goodbye, a_write_keeps_a_connection,
     an_accepted_connection_is_kept, an_attached_client_has_greeted, differing_pixels_are_owed,
@@ -47,6 +47,8 @@ pub fn a_read_keeps_a_session<B>()
     an_attached_client_has_greeted();
     a_refused_client_gets_its_goodbye();
     causes_stay();
+    causes_count_from_earlier();
+    only_settled_speaks_of_the_desktop();
 }
 
 /// A write, whatever it takes.
@@ -56,6 +58,8 @@ pub fn a_write_keeps_a_session<B>()
     an_accepted_connection_is_kept();
     a_write_keeps_a_connection();
     causes_stay();
+    causes_count_from_earlier();
+    only_settled_speaks_of_the_desktop();
 }
 
 /// A paint line, which changes the desktop and the numbers opened so far as it says; what it needs of each client is there.

@@ -3,7 +3,11 @@ use Rattle.session_steps.proofs.laws.a_read_keeps_a_session.Goals as goal
 
 pub returns : goal.returns
 returns g c = receive_keeps (record {
-  stay = c.causes_stay.ensures;
+  causes = record {
+    stay = c.causes_stay.ensures;
+    count_earlier = c.causes_count_from_earlier.ensures;
+    any_desk = c.only_settled_speaks_of_the_desktop.ensures;
+  };
   waiting = c.an_accepted_connection_is_kept.ensures.waiting;
   hearing = c.hearing_keeps_a_connection.ensures;
   ends = c.what_ends_a_talk_was_given.ensures;
