@@ -13,4 +13,5 @@ pub mod Changing
 pub mod ChangeMarking
 pub mod ChangeOwing
 pub mod ChangeNumbering
+pub mod Drawings
 pub mod Examples

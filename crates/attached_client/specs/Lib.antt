@@ -5,3 +5,4 @@ pub mod Desktops
 pub mod Sending
 pub mod Laws
 pub mod ChangeLaws
+pub mod Drawing

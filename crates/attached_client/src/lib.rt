@@ -6,6 +6,7 @@ mod carrying;
 mod change;
 mod change_laws;
 mod client;
+mod drawing_laws;
 mod laws;
 mod packets;
 mod preparing;
@@ -17,4 +18,5 @@ pub use change_laws::{
     a_change_keeps_the_numbering,
 };
 pub use client::Attached;
+pub use drawing_laws::drawing_keeps_a_client;
 pub use laws::{a_new_client_attaches, acting_keeps_what_is_told, messages_mark_and_owe_so};
