@@ -5,3 +5,5 @@ pub mod Coming
 pub mod Heard
 pub mod Written
 pub mod LinesPainted
+pub mod Drawn
+pub mod Settled

@@ -99,7 +99,7 @@ fresh_earlier tells desk were_opened k r c kept = record {
 
 -- ---- the end that a step gives to a connection that was open
 
-not_settled : (e : End) → IsOfSteps e → e ≢ E.Settled
+pub not_settled : (e : End) → IsOfSteps e → e ≢ E.Settled
 not_settled e of same = subst IsOfSteps same of
 
 module _ (count_earlier : CausesCountFromEarlier) (any_desk : OnlySettledSpeaksOfTheDesktop) (tells : Bool) (desk : List Window) (were_opened : ℕ → Bool) (slots : Slots) (was now : ℕ → ConnectionRecord)

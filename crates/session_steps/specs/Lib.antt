@@ -6,3 +6,5 @@ pub mod Sending
 pub mod Painting
 pub mod Steady
 pub mod Laws
+pub mod Drawing
+pub mod Settling
