@@ -1,2 +1,12 @@
 pub mod Regions
 pub mod Acknowledging
+pub mod SourceLemmas
+pub mod KeptLemmas
+pub mod CapturingLemmas
+pub mod DraftsLemmas
+pub mod FiledLemmas
+pub mod TakingLemmas
+pub mod OwedLemmas
+pub mod LawsLemmas
+pub mod StandingsLemmas
+pub mod ResizedLemmas

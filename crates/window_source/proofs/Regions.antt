@@ -6,7 +6,7 @@ use Rattle.xp_base.specs.Points.{Rectangle, LiesIn, is_in, is_within, whole}
 use Rattle.rect_regions.specs.PointSets.{SamePoints, HasNone, united, shared}
 use Rattle.delivery_model.specs.Grids.{points, has}
 use Rattle.delivery_model.specs.Laws.{PointsHave, PointsAreAlike}
-use Rattle.window_source.specs.Kept.{AreWithin}
+use Rattle.rect_regions.specs.BitRows.{AllWithin}
 
 pub in_within : (w h : ℕ) (r : Rectangle) (x y : ℕ) → LiesIn w h r → is_in r x y ≡ true → is_within w h x y ≡ true
 in_within w h r x y lies here = grind (arith, nat_tests, lies.across, lies.down)
@@ -27,18 +27,18 @@ and_last true b is = is
 and_last false b is = elim (false≢true is) [ ]
 
 -- the model's set has the points that the region has
-pub has_same : PointsHave → (w h : ℕ) (set : ℕ → ℕ → Bool) → AreWithin w h set → (x y : ℕ) → has (points w h set) x y ≡ set x y
+pub has_same : PointsHave → (w h : ℕ) (set : ℕ → ℕ → Bool) → AllWithin w h set → (x y : ℕ) → has (points w h set) x y ≡ set x y
 has_same have w h set within x y = have w h set x y ∙ and_given (is_within w h x y) (set x y) (within x y)
 
 pub has_inside : PointsHave → (w h : ℕ) (set : ℕ → ℕ → Bool) (x y : ℕ) → is_within w h x y ≡ true → has (points w h set) x y ≡ set x y
 has_inside have w h set x y inside = have w h set x y ∙ and_true (is_within w h x y) (set x y) inside
 
-or_within : (w h : ℕ) (was : ℕ → ℕ → Bool) (r : Rectangle) (x y : ℕ) (b : Bool) → was x y ≡ b → AreWithin w h was → LiesIn w h r → (b || is_in r x y) ≡ true → is_within w h x y ≡ true
+or_within : (w h : ℕ) (was : ℕ → ℕ → Bool) (r : Rectangle) (x y : ℕ) (b : Bool) → was x y ≡ b → AllWithin w h was → LiesIn w h r → (b || is_in r x y) ≡ true → is_within w h x y ≡ true
 or_within w h was r x y true is within lies here = within x y is
 or_within w h was r x y false is within lies here = in_within w h r x y lies here
 
 -- what is pending with a rectangle of the window
-pub united_within : (w h : ℕ) (was region : ℕ → ℕ → Bool) (r : Rectangle) → AreWithin w h was → LiesIn w h r → SamePoints region (united was (is_in r)) → AreWithin w h region
+pub united_within : (w h : ℕ) (was region : ℕ → ℕ → Bool) (r : Rectangle) → AllWithin w h was → LiesIn w h r → SamePoints region (united was (is_in r)) → AllWithin w h region
 united_within w h was region r within lies same x y here = or_within w h was r x y (was x y) refl within lies (sym (same x y) ∙ here)
 
 pub united_points : PointsHave → PointsAreAlike → (w h : ℕ) (was region : ℕ → ℕ → Bool) (r : Rectangle) → SamePoints region (united was (is_in r))
@@ -47,7 +47,7 @@ united_points have alike w h was region r same = alike w h region (λ x y. has (
     (λ x y inside. same x y ∙ ap (λ b. b || is_in r x y) (sym (has_inside have w h was x y inside)))
 
 -- and with what of a rectangle is in the window
-pub clipped_within : (w h : ℕ) (all region : ℕ → ℕ → Bool) → SamePoints region (shared all (is_in (whole w h))) → AreWithin w h region
+pub clipped_within : (w h : ℕ) (all region : ℕ → ℕ → Bool) → SamePoints region (shared all (is_in (whole w h))) → AllWithin w h region
 clipped_within w h all region same x y here = sym (whole_within w h x y) ∙ and_last (all x y) (is_in (whole w h) x y) (sym (same x y) ∙ here)
 
 and_first : (a b : Bool) → b ≡ true → (a && b) ≡ a

@@ -2,3 +2,11 @@ pub mod Source
 pub mod Kept
 pub mod Waiting
 pub mod Calls
+pub mod Owed
+pub mod Resized
+pub mod Capturing
+pub mod Taking
+pub mod Drawn
+pub mod Standings
+pub mod Drafts
+pub mod Laws

@@ -2,9 +2,13 @@
 -- the packets that wait. This project's own.
 use Rattle.std.specs.Prelude.{ℕ, ◌+◌, Bool, Option, None, List, [], ◌∷◌}
 use Rattle.xp_base.specs.Points.{area}
-use Rattle.delivery_model.specs.Grids.{Points, Grid}
+use Rattle.delivery_model.specs.Grids.{Points, points, Grid}
 use Rattle.delivery_model.specs.Window.{Job, Packet, Sent, Window}
 use Rattle.delivery_model.specs.Events.{started}
+use Rattle.draw_sequencer.specs.InHand.{HeldJob}
+use Rattle.damage_batch.specs.Pending.{BatchSeen}
+use Rattle.lossy_refresh.specs.LossyPoints.{LossySeen}
+use Rattle.resize_cancel.specs.Delivery.{jobs_seen}
 
 -- the connection and the window, the window's size in pixels, and all else that the model's window has of the source
 pub record SourceSeen : Type 0 where
@@ -21,6 +25,24 @@ pub record SourceSeen : Type 0 where
   pub unacknowledged : List Sent
   pub next_sequence : ℕ
   pub delay : ℕ
+
+-- the parts of a source as the model has them
+abbrev pub seen : {R : Type 0} → (R → ℕ → ℕ → Bool) → ℕ → ℕ → ℕ → ℕ → Bool → List (HeldJob R) → BatchSeen R → LossySeen R → List Sent → ℕ → SourceSeen
+seen has conn wid wide high mapped jobs batch lossy sent next = record {
+  conn = conn;
+  wid = wid;
+  wide = wide;
+  high = high;
+  mapped = mapped;
+  jobs = jobs_seen has wide high jobs;
+  pending = points wide high (has batch.pending);
+  pending_since = batch.since;
+  lossy = points wide high (has lossy.points);
+  lossy_since = lossy.since;
+  unacknowledged = sent;
+  next_sequence = next;
+  delay = batch.delay;
+}
 
 -- the model's window, with the desktop's pixels row by row, what the client shows of it, and the packets on it that wait
 abbrev pub window_of : SourceSeen → List ℕ → Option Grid → List Packet → Window
