@@ -10,34 +10,37 @@ use Rattle.client_outbox.specs.Reliefs.{Emptied, ReliefsChange}
 use Rattle.rect_regions.specs.PointSets.{has}
 use Rattle.window_source.specs.Source.{SourceSeen, begun}
 use Rattle.window_source.specs.Waiting.{Queued}
+use Rattle.window_source.specs.Resized.{ResizingSeen}
 use Rattle.client_delivery.specs.Attached.{source_key, find_source}
 use Rattle.attached_client.specs.declared.change.Change.{Change}
 use Rattle.attached_client.specs.declared.change.Change.TheVariants as C
 use Rattle.attached_client.specs.declared.change.Prepared.{Prepared}
 use Rattle.attached_client.specs.declared.change.Prepared.TheVariants as P
 use Rattle.attached_client.specs.Client.{ClientSeen, Attachment, announced_at}
-use Rattle.attached_client.specs.Changes.{wid_of, ChangesWhere, ClientChanges, IsMadeWhere, IsMade, IsPrepared, IsPendingIn, Loses, with_window, with_message, damaged_in, lost_packet, moved_packet, raised_packet}
+use Rattle.attached_client.specs.Changes.{wid_of, ChangesWhere, ClientChanges, IsMadeWhere, IsMade, IsPrepared, IsPendingIn, IsResizingIn, Loses, Sizes, with_window, with_message, damaged_in, lost_packet, moved_packet, raised_packet}
 
 pub nothing_carries : (change : Change) (now : ℕ) (c : ClientSeen) → IsMade change now c P.Nothing → ClientChanges change now c c
 nothing_carries change now c made = go change (find_source c.seen.sources (wid_of change)) made
   where
-    go : (change : Change) (o : Option SourceSeen) → IsMadeWhere o change now c.conn P.Nothing → ChangesWhere o change now c c
+    go : (change : Change) (o : Option SourceSeen) → IsMadeWhere o c.seen.out.packets change now c.conn P.Nothing → ChangesWhere o change now c c
     go (C.Opened g) None made = absurd (cc made)
     go (C.Closed k) None made = refl
     go (C.Moved g) None made = refl
     go (C.Raised k) None made = refl
     go (C.Damaged k r) None made = refl
+    go (C.Resized g) None made = refl
     go (C.Opened g) (Some s) made = refl
     go (C.Closed k) (Some s) made = absurd (cc made)
     go (C.Moved g) (Some s) made = absurd (cc made)
     go (C.Raised k) (Some s) made = absurd (cc made)
     go (C.Damaged k r) (Some s) made = absurd made
+    go (C.Resized g) (Some s) made = absurd made
 
 pub window_carries : (change : Change) (now : ℕ) (c : ClientSeen) (source : SourceSeen) (packet : Queued) → IsMade change now c (P.Window source packet)
     → ClientChanges change now c (with_window source packet c)
 window_carries change now c source packet made = go change (find_source c.seen.sources (wid_of change)) made
   where
-    go : (change : Change) (o : Option SourceSeen) → IsMadeWhere o change now c.conn (P.Window source packet) → ChangesWhere o change now c (with_window source packet c)
+    go : (change : Change) (o : Option SourceSeen) → IsMadeWhere o c.seen.out.packets change now c.conn (P.Window source packet) → ChangesWhere o change now c (with_window source packet c)
     go (C.Opened g) None made =
         let begins : source ≡ begun c.conn g.wid g.w g.h now = cc made in
         let announces : packet ≡ announced_at g = cc made in
@@ -46,17 +49,19 @@ window_carries change now c source packet made = go change (find_source c.seen.s
     go (C.Moved g) None made = absurd (cc made)
     go (C.Raised k) None made = absurd (cc made)
     go (C.Damaged k r) None made = absurd (cc made)
+    go (C.Resized g) None made = absurd (cc made)
     go (C.Opened g) (Some s) made = absurd (cc made)
     go (C.Closed k) (Some s) made = absurd (cc made)
     go (C.Moved g) (Some s) made = absurd (cc made)
     go (C.Raised k) (Some s) made = absurd (cc made)
     go (C.Damaged k r) (Some s) made = absurd made
+    go (C.Resized g) (Some s) made = absurd made
 
 -- the window is new to the client
 pub window_is_new : (change : Change) (now : ℕ) (c : ClientSeen) (source : SourceSeen) (packet : Queued) → IsMade change now c (P.Window source packet) → find_source c.seen.sources source.wid ≡ None
 window_is_new change now c source packet made = go change (find_source c.seen.sources (wid_of change)) refl made
   where
-    go : (change : Change) (o : Option SourceSeen) → find_source c.seen.sources (wid_of change) ≡ o → IsMadeWhere o change now c.conn (P.Window source packet) → find_source c.seen.sources source.wid ≡ None
+    go : (change : Change) (o : Option SourceSeen) → find_source c.seen.sources (wid_of change) ≡ o → IsMadeWhere o c.seen.out.packets change now c.conn (P.Window source packet) → find_source c.seen.sources source.wid ≡ None
     go (C.Opened g) None found made =
         let begins : source ≡ begun c.conn g.wid g.w g.h now = cc made in
         ap (λ (s : SourceSeen). find_source c.seen.sources s.wid) begins ∙ found
@@ -64,41 +69,47 @@ window_is_new change now c source packet made = go change (find_source c.seen.so
     go (C.Moved g) None found made = absurd (cc made)
     go (C.Raised k) None found made = absurd (cc made)
     go (C.Damaged k r) None found made = absurd (cc made)
+    go (C.Resized g) None found made = absurd (cc made)
     go (C.Opened g) (Some s) found made = absurd (cc made)
     go (C.Closed k) (Some s) found made = absurd (cc made)
     go (C.Moved g) (Some s) found made = absurd (cc made)
     go (C.Raised k) (Some s) found made = absurd (cc made)
     go (C.Damaged k r) (Some s) found made = absurd made
+    go (C.Resized g) (Some s) found made = absurd made
 
 pub lost_carries : (change : Change) (now : ℕ) (c c' : ClientSeen) (packet : Queued) → IsMade change now c (P.Lost packet) → Loses (wid_of change) packet c c' → ClientChanges change now c c'
 lost_carries change now c c' packet made loses = go change (find_source c.seen.sources (wid_of change)) made loses
   where
-    go : (change : Change) (o : Option SourceSeen) → IsMadeWhere o change now c.conn (P.Lost packet) → Loses (wid_of change) packet c c' → ChangesWhere o change now c c'
+    go : (change : Change) (o : Option SourceSeen) → IsMadeWhere o c.seen.out.packets change now c.conn (P.Lost packet) → Loses (wid_of change) packet c c' → ChangesWhere o change now c c'
     go (C.Opened g) None made loses = absurd (cc made)
     go (C.Closed k) None made loses = absurd (cc made)
     go (C.Moved g) None made loses = absurd (cc made)
     go (C.Raised k) None made loses = absurd (cc made)
     go (C.Damaged k r) None made loses = absurd (cc made)
+    go (C.Resized g) None made loses = absurd (cc made)
     go (C.Opened g) (Some s) made loses = absurd (cc made)
     go (C.Closed k) (Some s) made loses = let same : packet ≡ lost_packet k = cc made in subst (λ (p : Queued). Loses k p c c') same loses
     go (C.Moved g) (Some s) made loses = absurd (cc made)
     go (C.Raised k) (Some s) made loses = absurd (cc made)
     go (C.Damaged k r) (Some s) made loses = absurd made
+    go (C.Resized g) (Some s) made loses = absurd made
 
 pub message_carries : (change : Change) (now : ℕ) (c : ClientSeen) (packet : Queued) → IsMade change now c (P.Message packet) → ClientChanges change now c (with_message packet c)
 message_carries change now c packet made = go change (find_source c.seen.sources (wid_of change)) made
   where
-    go : (change : Change) (o : Option SourceSeen) → IsMadeWhere o change now c.conn (P.Message packet) → ChangesWhere o change now c (with_message packet c)
+    go : (change : Change) (o : Option SourceSeen) → IsMadeWhere o c.seen.out.packets change now c.conn (P.Message packet) → ChangesWhere o change now c (with_message packet c)
     go (C.Opened g) None made = absurd (cc made)
     go (C.Closed k) None made = absurd (cc made)
     go (C.Moved g) None made = absurd (cc made)
     go (C.Raised k) None made = absurd (cc made)
     go (C.Damaged k r) None made = absurd (cc made)
+    go (C.Resized g) None made = absurd (cc made)
     go (C.Opened g) (Some s) made = absurd (cc made)
     go (C.Closed k) (Some s) made = absurd (cc made)
     go (C.Moved g) (Some s) made = let same : packet ≡ moved_packet g = cc made in ap (λ (p : Queued). with_message p c) same
     go (C.Raised k) (Some s) made = let same : packet ≡ raised_packet k = cc made in ap (λ (p : Queued). with_message p c) same
     go (C.Damaged k r) (Some s) made = absurd made
+    go (C.Resized g) (Some s) made = absurd made
 
 -- what was pending of a window with a rectangle
 pub record Damages (change : Change) (now : ℕ) (c : ClientSeen) (pending : List Rectangle) : Type 0 where
@@ -109,12 +120,13 @@ pub record Damages (change : Change) (now : ℕ) (c : ClientSeen) (pending : Lis
 pub pending_carries : (change : Change) (now : ℕ) (c : ClientSeen) (pending : List Rectangle) → IsMade change now c (P.Pending pending) → Damages change now c pending
 pending_carries change now c pending made = go change (find_source c.seen.sources (wid_of change)) refl made
   where
-    go : (change : Change) (o : Option SourceSeen) → find_source c.seen.sources (wid_of change) ≡ o → IsMadeWhere o change now c.conn (P.Pending pending) → Damages change now c pending
+    go : (change : Change) (o : Option SourceSeen) → find_source c.seen.sources (wid_of change) ≡ o → IsMadeWhere o c.seen.out.packets change now c.conn (P.Pending pending) → Damages change now c pending
     go (C.Opened g) None found made = absurd (cc made)
     go (C.Closed k) None found made = absurd (cc made)
     go (C.Moved g) None found made = absurd (cc made)
     go (C.Raised k) None found made = absurd (cc made)
     go (C.Damaged k r) None found made = absurd (cc made)
+    go (C.Resized g) None found made = absurd (cc made)
     go (C.Opened g) (Some s) found made = absurd (cc made)
     go (C.Closed k) (Some s) found made = absurd (cc made)
     go (C.Moved g) (Some s) found made = absurd (cc made)
@@ -123,6 +135,33 @@ pending_carries change now c pending made = go change (find_source c.seen.source
       rect = r;
       pends = record { source = s; found = found; damage = made };
       carries = λ c' is. subst (λ (o : Option SourceSeen). ChangesWhere o (C.Damaged k r) now c c') (sym found) is;
+    }
+    go (C.Resized g) (Some s) found made = absurd made
+
+-- what was made for a resize of a window
+pub record Resizes (change : Change) (now : ℕ) (c : ClientSeen) (z : ResizingSeen (List Rectangle)) : Type 0 where
+  pub sizing : IsResizingIn (wid_of change) c z
+  pub carries : (c' : ClientSeen) → Sizes (wid_of change) z.wide z.high now c c' → ClientChanges change now c c'
+
+pub resizing_carries : (change : Change) (now : ℕ) (c : ClientSeen) (z : ResizingSeen (List Rectangle)) → IsMade change now c (P.Resized z) → Resizes change now c z
+resizing_carries change now c z made = go change (find_source c.seen.sources (wid_of change)) refl made
+  where
+    go : (change : Change) (o : Option SourceSeen) → find_source c.seen.sources (wid_of change) ≡ o → IsMadeWhere o c.seen.out.packets change now c.conn (P.Resized z) → Resizes change now c z
+    go (C.Opened g) None found made = absurd (cc made)
+    go (C.Closed k) None found made = absurd (cc made)
+    go (C.Moved g) None found made = absurd (cc made)
+    go (C.Raised k) None found made = absurd (cc made)
+    go (C.Damaged k r) None found made = absurd (cc made)
+    go (C.Resized g) None found made = absurd (cc made)
+    go (C.Opened g) (Some s) found made = absurd (cc made)
+    go (C.Closed k) (Some s) found made = absurd (cc made)
+    go (C.Moved g) (Some s) found made = absurd (cc made)
+    go (C.Raised k) (Some s) found made = absurd (cc made)
+    go (C.Damaged k r) (Some s) found made = absurd made
+    go (C.Resized g) (Some s) found made = record {
+      sizing = record { source = s; found = found; made = made.1 };
+      carries = λ c' is. subst (λ (o : Option SourceSeen). ChangesWhere o (C.Resized g) now c c') (sym found)
+          (subst (λ (h : ℕ). Sizes g.wid g.w h now c c') made.0.high (subst (λ (w : ℕ). Sizes g.wid w z.high now c c') made.0.wide is));
     }
 
 -- a window went: its reliefs were emptied, the packet put, and its source taken away

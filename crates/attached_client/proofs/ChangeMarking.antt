@@ -6,13 +6,13 @@ use Rattle.xp_base.specs.Points.{Rectangle}
 use Rattle.xp_base.specs.Keyed.{keyed_remove}
 use Rattle.xp_base.specs.KeyedLaws.{KeyedFinds}
 use Rattle.window_model.specs.Geometry.{Geometry}
-use Rattle.delivery_model.specs.Events.{damaged}
+use Rattle.delivery_model.specs.Events.{damaged, resized}
 use Rattle.window_source.specs.Source.{SourceSeen, begun, after}
 use Rattle.client_delivery.specs.Attached.{source_key, find_source}
 use Rattle.attached_client.specs.declared.change.Change.{Change}
 use Rattle.attached_client.specs.declared.change.Change.TheVariants as C
 use Rattle.attached_client.specs.Client.{ClientSeen}
-use Rattle.attached_client.specs.Changes.{wid_of, ChangesWhere, damaged_in}
+use Rattle.attached_client.specs.Changes.{wid_of, ChangesWhere, Sizes, damaged_in}
 use Rattle.attached_client.specs.Laws.{mark_in, mark_on}
 use Rattle.attached_client.specs.ChangeLaws.{begun_mark, changed_mark, ChangeMarks}
 
@@ -52,6 +52,14 @@ module _ (finds : KeyedFinds SourceSeen) (c : ClientSeen) (k : ℕ) where
       go true (Some s) = refl
       go false o = refl
 
+  sizes : (j w h now : ℕ) (c' : ClientSeen) → Sizes j w h now c c' → mark_on k c' ≡ mark_on k c
+  sizes j w h now c' is = ap (mark_on k) is.client ∙ ap mark_in (finds.changed source_key c.seen.sources j (after (resized w h now)) k (λ s. refl)) ∙ go (eqb k j) (find_source c.seen.sources k)
+    where
+      go : (b : Bool) (o : Option SourceSeen) → mark_in (cond b (option_map (after (resized w h now)) o) o) ≡ mark_in o
+      go true None = refl
+      go true (Some s) = refl
+      go false o = refl
+
 module _ (finds : KeyedFinds SourceSeen) where
   pub change_marks : ChangeMarks
   change_marks change now c c' k becomes = go change (find_source c.seen.sources (wid_of change)) refl becomes
@@ -62,8 +70,10 @@ module _ (finds : KeyedFinds SourceSeen) where
       go (C.Moved g) None found is = ap (mark_on k) is
       go (C.Raised j) None found is = ap (mark_on k) is
       go (C.Damaged j r) None found is = ap (mark_on k) is
+      go (C.Resized g) None found is = ap (mark_on k) is
       go (C.Opened g) (Some s) found is = ap (mark_on k) is ∙ opened_there (eqb k g.wid) (mark_on k c) s.mapped (λ same. mark_at finds c k g.wid (Some s) found same)
       go (C.Closed j) (Some s) found loses = ap (mark_on k) loses.client ∙ closes finds c k j
       go (C.Moved g) (Some s) found is = ap (mark_on k) is
       go (C.Raised j) (Some s) found is = ap (mark_on k) is
       go (C.Damaged j r) (Some s) found is = ap (mark_on k) is ∙ damages finds c k j r now
+      go (C.Resized g) (Some s) found is = sizes finds c k g.wid g.w g.h now c' is

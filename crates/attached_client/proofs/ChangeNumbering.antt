@@ -13,7 +13,7 @@ use Rattle.window_source.specs.Waiting.{Queued, Waiting, Carries, IsDraw}
 use Rattle.client_delivery.specs.Attached.{find_source}
 use Rattle.client_delivery.specs.Delivered.{concerns, packets_of}
 use Rattle.client_delivery.specs.Numbered.{AreNumbered}
-use Rattle.client_delivery.specs.Numbering.{PaintNumbers, OpenNumbers, CloseNumbers, PutNumbers}
+use Rattle.client_delivery.specs.Numbering.{PaintNumbers, OpenNumbers, CloseNumbers, ResizeNumbers, PutNumbers}
 use Rattle.attached_client.specs.declared.change.Change.{Change}
 use Rattle.attached_client.specs.declared.change.Change.TheVariants as C
 use Rattle.attached_client.specs.Client.{ClientSeen}
@@ -23,7 +23,7 @@ use Rattle.attached_client.specs.ChangeLaws.{ChangeNumbers}
 use Rattle.attached_client.proofs.Marking.{same_test}
 use Rattle.attached_client.proofs.Messages.{Writes}
 use Rattle.attached_client.proofs.Changing.{number_at}
-use Rattle.attached_client.proofs.ChangeSteps.{opens_so, closes_so, moves_so, raises_so}
+use Rattle.attached_client.proofs.ChangeSteps.{opens_so, closes_so, moves_so, raises_so, sizes_so}
 
 -- a packet of a message that is not on a window is no draw in it
 draws_nowhere : (k : ℕ) (o : Option ℕ) (d : Option Draw) (pixels : List ℕ) (m : ToClient) → IsDraw o d pixels m → concerns k m ≡ false → is_named o k ≡ false
@@ -45,7 +45,7 @@ none_drawn : (k : ℕ) (waiting : List Waiting) → AllByRecursion Carries waiti
 none_drawn k [] carried none = tt
 none_drawn k (w ∷ waiting) carried none = (draws_nowhere k w.packet.wid w.packet.draw w.pixels w.message carried.0.draw none.0, none_drawn k waiting carried.1 none.1)
 
-module _ (writes : Writes) (finds : KeyedFinds Window) (paints : PaintNumbers) (opens : OpenNumbers) (closes : CloseNumbers) (puts : PutNumbers) where
+module _ (writes : Writes) (finds : KeyedFinds Window) (paints : PaintNumbers) (opens : OpenNumbers) (closes : CloseNumbers) (puts : PutNumbers) (resizes : ResizeNumbers) where
   pub change_numbers : ChangeNumbers
   change_numbers desk desk' old new change now next c c' sent first desktop changes numbers told becomes numbered = go change (find_source c.seen.sources (wid_of change)) refl changes numbers becomes
     where
@@ -65,3 +65,5 @@ module _ (writes : Writes) (finds : KeyedFinds Window) (paints : PaintNumbers) (
       go (C.Raised j) (Some s) found changes numbers is = puts next (T.RaiseWindow j) c.seen c'.seen refl (raises_so writes j c c' (number_at finds desk j changes.window desktop changes.found) is) numbered
       go (C.Damaged j r) None found changes numbers is = as_before is
       go (C.Damaged j r) (Some s) found changes numbers is = subst (λ (d : ClientSeen). AreNumbered next d.seen) (sym is) (paints next j r now c.seen first numbered)
+      go (C.Resized g) None found changes numbers is = as_before is
+      go (C.Resized g) (Some s) found changes numbers is = resizes next g.wid g.w g.h now c.seen c'.seen first (sizes_so g.wid g.w g.h now c c' is) numbered

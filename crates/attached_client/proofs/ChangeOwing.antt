@@ -7,7 +7,7 @@ use Rattle.packet_kinds.specs.declared.to_client.ToClient.TheVariants as T
 use Rattle.window_source.specs.Source.{SourceSeen}
 use Rattle.client_delivery.specs.Attached.{find_source}
 use Rattle.client_delivery.specs.Owed.{owes}
-use Rattle.client_delivery.specs.Owing.{PaintOwes, OpenOwes, CloseOwes, PutOwes}
+use Rattle.client_delivery.specs.Owing.{PaintOwes, OpenOwes, CloseOwes, ResizeOwes, PutOwes}
 use Rattle.attached_client.specs.declared.change.Change.{Change}
 use Rattle.attached_client.specs.declared.change.Change.TheVariants as C
 use Rattle.attached_client.specs.Client.{ClientSeen}
@@ -15,10 +15,10 @@ use Rattle.attached_client.specs.Changes.{wid_of, ChangesWhere}
 use Rattle.attached_client.specs.Desktops.{DeskChanges}
 use Rattle.attached_client.specs.ChangeLaws.{ChangeOwes, changed_owed}
 use Rattle.attached_client.proofs.Messages.{Writes}
-use Rattle.attached_client.proofs.ChangeSteps.{opens_so, closes_so, moves_so, raises_so}
+use Rattle.attached_client.proofs.ChangeSteps.{opens_so, closes_so, moves_so, raises_so, sizes_so}
 use Rattle.attached_client.proofs.Changing.{source_there, source_missing, no_window, number_at}
 
-module _ (writes : Writes) (finds : KeyedFinds Window) (paints : PaintOwes) (opens : OpenOwes) (closes : CloseOwes) (puts : PutOwes) where
+module _ (writes : Writes) (finds : KeyedFinds Window) (paints : PaintOwes) (opens : OpenOwes) (closes : CloseOwes) (puts : PutOwes) (resizes : ResizeOwes) where
   pub change_owes : ChangeOwes
   change_owes desk desk' old change now c c' sent k x y desktop changes told becomes = go change (find_source c.seen.sources (wid_of change)) refl changes becomes
     where
@@ -39,3 +39,5 @@ module _ (writes : Writes) (finds : KeyedFinds Window) (paints : PaintOwes) (ope
       go (C.Raised j) (Some s) found changes is = puts (T.RaiseWindow j) c.seen c'.seen k x y refl (raises_so writes j c c' (number_at finds desk j changes.window desktop changes.found) is)
       go (C.Damaged j r) None found changes is = absurd (there j changes.window changes.found found)
       go (C.Damaged j r) (Some s) found changes is = ap (λ (d : ClientSeen). owes d.seen k x y) is ∙ paints j r now c.seen k x y
+      go (C.Resized g) None found changes is = absurd (there g.wid changes.window changes.found found)
+      go (C.Resized g) (Some s) found changes is = resizes g.wid g.w g.h now c.seen c'.seen s k x y found (sizes_so g.wid g.w g.h now c c' is)

@@ -1,15 +1,34 @@
 -- A client's change as the steps of a client's deliveries have it.
-use Rattle.std.proofs.Common.{◌≡◌, ℕ, refl, ap, arith}
+use Rattle.std.proofs.Common.{◌≡◌, ℕ, [], refl, sym, ap, ◌∙◌, subst, arith}
 use Rattle.window_model.specs.Desktop.{fresh_window}
 use Rattle.window_model.specs.Geometry.{Geometry, IsGeometry}
 use Rattle.packet_kinds.specs.declared.to_client.ToClient.TheVariants as T
 use Rattle.packet_kinds.specs.Fields.{HasFields, IsNumber}
 use Rattle.window_source.specs.Source.{begun}
-use Rattle.window_source.specs.Waiting.{Carries}
-use Rattle.client_delivery.specs.Steps.{structure, Opens, Closes, PutsAlone}
+use Rattle.rect_regions.specs.PointSets.{has}
+use Rattle.window_source.specs.Waiting.{Queued, Carries, IsDraw}
+use Rattle.window_source.specs.Resized.{SaysSize}
+use Rattle.client_delivery.specs.Steps.{structure, Opens, Closes, Resizes, PutsAlone}
 use Rattle.attached_client.specs.Client.{ClientSeen, announced_at}
-use Rattle.attached_client.specs.Changes.{Loses, with_window, with_message, lost_packet, moved_packet, raised_packet}
+use Rattle.attached_client.specs.Changes.{Loses, Sizes, with_window, with_message, lost_packet, moved_packet, raised_packet}
 use Rattle.attached_client.proofs.Messages.{Writes, is_message, geometry_carries}
+
+-- the packet of a new size is of its message
+size_carries : (k w h : ℕ) (p : Queued) → SaysSize has k w h p → Carries (structure p (T.WindowResized k w h))
+size_carries k w h p says = record {
+  message = says.message;
+  draw = subst (λ (q : Queued). IsDraw q.wid q.draw [] (T.WindowResized k w h)) (sym says.plain) tt;
+  plain = λ none. says.relief;
+}
+
+pub sizes_so : (k w h now : ℕ) (c c' : ClientSeen) → Sizes k w h now c c' → Resizes k w h now c.seen c'.seen
+sizes_so k w h now c c' is = record {
+  sources = ap (λ (d : ClientSeen). d.seen.sources) is.client;
+  between = is.outbox.between;
+  reliefs = is.outbox.reliefs;
+  taken = is.outbox.taken;
+  put = record { packet = is.outbox.packet; carries = size_carries k w h is.outbox.packet is.outbox.says; put = ap (λ (d : ClientSeen). d.seen.out) is.client ∙ is.outbox.put };
+}
 
 module _ (writes : Writes) where
   pub lost_carries : (k : ℕ) → IsNumber k → Carries (structure (lost_packet k) (T.LostWindow k))

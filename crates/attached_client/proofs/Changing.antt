@@ -7,7 +7,7 @@ use Rattle.xp_base.specs.Points.{Rectangle, LiesIn}
 use Rattle.xp_base.specs.KeyedLaws.{KeyedFinds}
 use Rattle.delivery_model.specs.Events.{damaged}
 use Rattle.window_model.specs.Drawing.{blank}
-use Rattle.window_model.specs.Desktop.{Window, IsWindow, IsDesktop, find_window, fresh_window, changed_window, opened, without_window, raised, moved_on}
+use Rattle.window_model.specs.Desktop.{Window, IsWindow, IsDesktop, find_window, fresh_window, changed_window, opened, without_window, raised, moved_on, resized_on}
 use Rattle.window_model.specs.Geometry.{Geometry, IsGeometry}
 use Rattle.packet_kinds.specs.declared.to_client.ToClient.{ToClient}
 use Rattle.packet_kinds.specs.declared.to_client.ToClient.TheVariants as T
@@ -15,16 +15,16 @@ use Rattle.packet_kinds.specs.Fields.{IsNumber}
 use Rattle.window_source.specs.Source.{SourceSeen}
 use Rattle.client_delivery.specs.Attached.{AttachedSeen, find_source}
 use Rattle.client_delivery.specs.Delivered.{IsTold, AreOfOneSize}
-use Rattle.client_delivery.specs.Keeping.{IsPainted, PaintKeeps, OpenKeeps, CloseKeeps, MoveKeeps, RaiseKeeps}
-use Rattle.client_delivery.specs.Steps.{changes_source, PutsAlone}
+use Rattle.client_delivery.specs.Keeping.{IsPainted, PaintKeeps, OpenKeeps, CloseKeeps, MoveKeeps, RaiseKeeps, ResizeKeeps}
+use Rattle.client_delivery.specs.Steps.{changes_source, Resizes, PutsAlone}
 use Rattle.attached_client.specs.declared.change.Change.{Change}
 use Rattle.attached_client.specs.declared.change.Change.TheVariants as C
 use Rattle.attached_client.specs.Client.{ClientSeen}
-use Rattle.attached_client.specs.Changes.{wid_of, ChangesWhere, Loses, lost_packet}
+use Rattle.attached_client.specs.Changes.{wid_of, ChangesWhere, Loses, Sizes, lost_packet}
 use Rattle.attached_client.specs.Desktops.{DeskChanges, NumbersChange, SameNumbers}
 use Rattle.attached_client.specs.ChangeLaws.{ChangeKeeps, ChangeFits, ChangeStays, SameClient}
 use Rattle.attached_client.proofs.Messages.{Writes}
-use Rattle.attached_client.proofs.ChangeSteps.{opens_so, closes_so, moves_so, raises_so}
+use Rattle.attached_client.proofs.ChangeSteps.{opens_so, closes_so, moves_so, raises_so, sizes_so}
 
 -- ---- a client has a source where the desktop has a window
 
@@ -96,7 +96,7 @@ told_alike desk old new a sent same told = record {
   };
 }
 
-module _ (writes : Writes) (finds : KeyedFinds Window) (paints : PaintKeeps) (opens : OpenKeeps) (closes : CloseKeeps) (moves : MoveKeeps) (raises : RaiseKeeps) where
+module _ (writes : Writes) (finds : KeyedFinds Window) (paints : PaintKeeps) (opens : OpenKeeps) (closes : CloseKeeps) (moves : MoveKeeps) (raises : RaiseKeeps) (resizes : ResizeKeeps) where
   named : (desk : List Window) (k : ℕ) (window : Window) → find_window desk k ≡ Some window → window.wid ≡ k
   named desk k window found = finds.found (λ (w : Window). w.wid) desk k window found
 
@@ -136,6 +136,12 @@ module _ (writes : Writes) (finds : KeyedFinds Window) (paints : PaintKeeps) (op
       (subst (λ (j : ℕ). find_window desk j ≡ Some window → IsTold (changed_window desk j (λ w. window')) old (changes_source j (damaged r now) c.seen) sent) (named desk k window found)
       (λ found. paints desk old r window window' now c.seen sent desktop found painted told) found)
 
+  resizing : (g : Geometry) (desk : List Window) (window : Window) (old : ℕ → Bool) (now : ℕ) (c c' : ClientSeen) (sent : List ℕ) → IsDesktop desk → IsGeometry g → find_window desk g.wid ≡ Some window
+      → Sizes g.wid g.w g.h now c c' → IsTold desk old c.seen sent → IsTold (resized_on desk g.wid g.w g.h) old c'.seen sent
+  resizing g desk window old now c c' sent desktop is found sizes told =
+      subst (λ (j : ℕ). find_window desk j ≡ Some window → Resizes j g.w g.h now c.seen c'.seen → IsTold (resized_on desk j g.w g.h) old c'.seen sent) (named desk g.wid window found)
+      (λ found becomes. resizes desk old window g.w g.h now c.seen c'.seen sent desktop found is.wide.some is.wide.most is.high.some is.high.most becomes told) found (sizes_so g.wid g.w g.h now c c' sizes)
+
   pub change_keeps : ChangeKeeps
   change_keeps desk desk' old new change now c c' sent desktop changes numbers becomes told = go change (find_source c.seen.sources (wid_of change)) refl changes numbers becomes
     where
@@ -153,6 +159,8 @@ module _ (writes : Writes) (finds : KeyedFinds Window) (paints : PaintKeeps) (op
       go (C.Raised k) (Some s) have changes numbers becomes = subst at (sym changes.is) (told_alike _ old new c'.seen sent numbers (raising k desk changes.window old now c c' sent desktop changes.found s becomes told))
       go (C.Damaged k r) None have changes numbers becomes = absurd (source_there desk old c.seen sent told k changes.window changes.found have)
       go (C.Damaged k r) (Some s) have changes numbers becomes = subst at (sym changes.is) (told_alike _ old new c'.seen sent numbers (painting k r desk changes.window changes.window' old now c c' sent desktop changes.found changes.painted s becomes told))
+      go (C.Resized g) None have changes numbers becomes = absurd (source_there desk old c.seen sent told g.wid changes.window changes.found have)
+      go (C.Resized g) (Some s) have changes numbers becomes = subst at (sym changes.is) (told_alike _ old new c'.seen sent numbers (resizing g desk changes.window old now c c' sent desktop changes.geometry changes.found becomes told))
 
 -- a rectangle lies in the source's window
 lies_in : (window : Window) (s : SourceSeen) (r : Rectangle) → AreOfOneSize (Some window) (Some s) → LiesIn window.w window.h r → LiesIn s.wide s.high r
@@ -163,6 +171,7 @@ change_fits desk desk' old (C.Opened g) c sent changes told = λ s found. tt
 change_fits desk desk' old (C.Closed k) c sent changes told = λ s found. tt
 change_fits desk desk' old (C.Moved g) c sent changes told = λ s found. tt
 change_fits desk desk' old (C.Raised k) c sent changes told = λ s found. tt
+change_fits desk desk' old (C.Resized g) c sent changes told = λ s found. tt
 change_fits desk desk' old (C.Damaged k r) c sent changes told = λ s found.
     lies_in changes.window s r (subst (λ (o : Option SourceSeen). AreOfOneSize (Some changes.window) o) found (subst (λ (o : Option Window). AreOfOneSize o (find_source c.seen.sources k)) changes.found (told.delivered.sized k))) changes.lies
 
@@ -178,8 +187,10 @@ change_stays change now c c' becomes = go change (find_source c.seen.sources (wi
     go (C.Moved g) None is = same_client c c' c.seen is
     go (C.Raised k) None is = same_client c c' c.seen is
     go (C.Damaged k r) None is = same_client c c' c.seen is
+    go (C.Resized g) None is = same_client c c' c.seen is
     go (C.Opened g) (Some s) is = same_client c c' c.seen is
     go (C.Closed k) (Some s) loses = same_client c c' _ loses.client
     go (C.Moved g) (Some s) is = same_client c c' _ is
     go (C.Raised k) (Some s) is = same_client c c' _ is
     go (C.Damaged k r) (Some s) is = same_client c c' _ is
+    go (C.Resized g) (Some s) sizes = same_client c c' _ sizes.client

@@ -5,6 +5,7 @@ pub mod Marking
 pub mod Places
 pub mod Does
 pub mod Damages
+pub mod Sizings
 pub mod Begun
 pub mod Pixels
 pub mod CarriedOut

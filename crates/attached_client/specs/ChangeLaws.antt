@@ -6,7 +6,7 @@ use Rattle.client_delivery.specs.Attached.{AttachedSeen}
 use Rattle.client_delivery.specs.Delivered.{IsTold}
 use Rattle.client_delivery.specs.Numbered.{AreNumbered}
 use Rattle.client_delivery.specs.Owed.{owes}
-use Rattle.client_delivery.specs.Owing.{has_place}
+use Rattle.client_delivery.specs.Owing.{has_place, owed_resized}
 use Rattle.attached_client.specs.declared.change.Change.{Change}
 use Rattle.attached_client.specs.declared.change.Change.TheVariants as C
 use Rattle.attached_client.specs.Client.{ClientSeen}
@@ -45,17 +45,20 @@ changed_mark (C.Closed j) k mark = if k == j then None else mark
 changed_mark (C.Moved g) k mark = mark
 changed_mark (C.Raised j) k mark = mark
 changed_mark (C.Damaged j r) k mark = mark
+changed_mark (C.Resized g) k mark = mark
 
 abbrev pub ChangeMarks : Type 0
 ChangeMarks = (change : Change) (now : ℕ) (c c' : ClientSeen) (k : ℕ) → ClientChanges change now c c' → mark_on k c' ≡ changed_mark change k (mark_on k c)
 
--- what is owed after a change: of a new window all, of one that goes nothing, and what was owed and is painted
+-- what is owed after a change: of a new window all, of one that goes nothing, what was owed and is painted, and of a resized window
+-- what was owed in both sizes and what is new
 abbrev pub changed_owed : Change → AttachedSeen → ℕ → ℕ → ℕ → Bool
 changed_owed (C.Opened g) a k x y = owes a k x y || ((k == g.wid) && is_within g.w g.h x y)
 changed_owed (C.Closed j) a k x y = owes a k x y && not (k == j)
 changed_owed (C.Moved g) a k x y = owes a k x y
 changed_owed (C.Raised j) a k x y = owes a k x y
 changed_owed (C.Damaged j r) a k x y = owes a k x y || ((k == j) && (has_place a k x y && is_in r x y))
+changed_owed (C.Resized g) a k x y = if k == g.wid then owed_resized a g.w g.h k x y else owes a k x y
 
 abbrev pub ChangeOwes : Type 0
 ChangeOwes = (desk desk' : List Window) (old : ℕ → Bool) (change : Change) (now : ℕ) (c c' : ClientSeen) (sent : List ℕ) (k x y : ℕ)

@@ -1,7 +1,7 @@
 -- What a change, as a client meets it, is to the desktop, and to the numbers of the windows that were opened so far.
 use Rattle.std.specs.Prelude.{ℕ, ◌≡◌, Bool, false, Some, List}
 use Rattle.xp_base.specs.Points.{Rectangle, LiesIn}
-use Rattle.window_model.specs.Desktop.{Window, find_window, has_window, changed_window, opened, without_window, raised, moved_on}
+use Rattle.window_model.specs.Desktop.{Window, find_window, has_window, changed_window, opened, without_window, raised, moved_on, resized_on}
 use Rattle.window_model.specs.Geometry.{Geometry, IsGeometry}
 use Rattle.client_delivery.specs.Keeping.{IsPainted, FirstOpens}
 use Rattle.attached_client.specs.declared.change.Change.{Change}
@@ -34,6 +34,15 @@ pub record RaisesOn (k : ℕ) (desk desk' : List Window) : Type 0 where
   pub found : find_window desk k ≡ Some window
   pub is : desk' ≡ raised desk k
 
+-- it has this size, and its place as it was
+pub record ResizesOn (g : Geometry) (desk desk' : List Window) : Type 0 where
+  pub geometry : IsGeometry g
+  pub window : Window
+  pub found : find_window desk g.wid ≡ Some window
+  pub across : g.x ≡ window.x
+  pub down : g.y ≡ window.y
+  pub is : desk' ≡ resized_on desk g.wid g.w g.h
+
 -- it has other pixels in a rectangle of it alone
 pub record PaintsOn (k : ℕ) (r : Rectangle) (desk desk' : List Window) : Type 0 where
   pub window : Window
@@ -50,6 +59,7 @@ DeskChanges (C.Closed k) desk desk' = ClosesOn k desk desk'
 DeskChanges (C.Moved g) desk desk' = MovesOn g desk desk'
 DeskChanges (C.Raised k) desk desk' = RaisesOn k desk desk'
 DeskChanges (C.Damaged k r) desk desk' = PaintsOn k r desk desk'
+DeskChanges (C.Resized g) desk desk' = ResizesOn g desk desk'
 
 abbrev pub SameNumbers : (ℕ → Bool) → (ℕ → Bool) → Type 0
 SameNumbers old new = (k : ℕ) → new k ≡ old k
@@ -61,3 +71,4 @@ NumbersChange (C.Closed k) old new = SameNumbers old new
 NumbersChange (C.Moved g) old new = SameNumbers old new
 NumbersChange (C.Raised k) old new = SameNumbers old new
 NumbersChange (C.Damaged k r) old new = SameNumbers old new
+NumbersChange (C.Resized g) old new = SameNumbers old new

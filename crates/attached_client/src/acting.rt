@@ -1,8 +1,9 @@
 // What a client says.
-ghost use Rattle.std.specs.Prelude.{◌≡◌, ◌≢◌, min, pos, true, false, [], None, Ok, IfOk, OnOk, OnErr};
+ghost use Rattle.std.specs.Prelude.{◌≡◌, ◌≢◌, ◌≤◌, min, pos, true, false, [], None, Ok, IfOk, OnOk, OnErr};
 ghost use Rattle.ack_tracker.specs.declared.ack.Ack.TheVariants as A;
 ghost use Rattle.packet_kinds.specs.declared.from_client.FromClient.TheVariants as C;
 ghost use Rattle.attached_client.specs.Acting.{acted_client, ignored, Does};
+ghost use Rattle.xp_base.specs.Clocks.{last_moment};
 ghost use Rattle.xp_base.specs.Counts.{greatest};
 ghost use Rattle.attached_client.specs.Client.{weight, pixels_in_hand};
 
@@ -20,6 +21,7 @@ const WEIGHT_LIMIT: u64 = 33_554_432;
 impl Attached {
     /// Acts on a message of the client at this moment, in milliseconds. Answers whether it was ignored.
     pub fn act(&mut self, message: &FromClient, now: u64) -> Result<bool, NoMemory>
+        requires { now ≤ last_moment }
         ensures ok { OnOk result (self.new.client ≡ acted_client now message.now self.old.client) }
         ensures same { OnErr result (self.new.client ≡ self.old.client) }
         ensures answer { IfOk result (λ answer. answer ≡ ignored message.now self.old.client.seen) }
@@ -58,6 +60,7 @@ impl Attached {
     }
 
     fn unmap(&mut self, wid: i64, now: u64) -> Result<bool, NoMemory>
+        requires { now ≤ last_moment }
         ensures { Does (C.UnmapWindow wid []) now self.old.client result self.new.client }
     {
         keyed_places::<WindowSource<Region>>();
@@ -70,6 +73,7 @@ impl Attached {
     }
 
     fn refresh(&mut self, wid: i64, now: u64) -> Result<bool, NoMemory>
+        requires { now ≤ last_moment }
         ensures { Does (C.BufferRefresh wid []) now self.old.client result self.new.client }
     {
         keyed_places::<WindowSource<Region>>();
@@ -88,6 +92,7 @@ impl Attached {
         time: i64,
         now: u64,
     ) -> Result<bool, NoMemory>
+        requires { now ≤ last_moment }
         ensures { Does (C.DamageSequence sequence wid (pos 0) (pos 0) time None) now self.old.client result self.new.client }
     {
         keyed_places::<WindowSource<Region>>();

@@ -5,7 +5,7 @@ ghost use Rattle.attached_client.specs.Changes.{wid_of};
 use client_outbox::Packet;
 use rect_regions::Region;
 use window_model::Geometry;
-use window_source::WindowSource;
+use window_source::{Resizing, WindowSource};
 use xp_base::{Rect, Wid};
 
 /// What a paint line is to a client. Places and sizes are in pixels.
@@ -21,6 +21,8 @@ pub enum Change {
     Raised(Wid),
     /// The rectangle of the window has other pixels perhaps.
     Damaged(Wid, Rect),
+    /// The window has this size, and the place that it had.
+    Resized(Geometry),
 }
 
 impl Change {
@@ -29,7 +31,7 @@ impl Change {
         ensures { result ≡ wid_of self.now }
     {
         match self {
-            Change::Opened(g) | Change::Moved(g) => g.wid,
+            Change::Opened(g) | Change::Moved(g) | Change::Resized(g) => g.wid,
             Change::Closed(wid) | Change::Raised(wid) | Change::Damaged(wid, _) => *wid,
         }
     }
@@ -47,4 +49,6 @@ pub enum Prepared {
     Message(Packet<Region>),
     /// What is pending of a window then.
     Pending(Region),
+    /// What a window's resize needs.
+    Resized(Resizing<Region>),
 }

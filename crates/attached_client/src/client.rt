@@ -1,5 +1,6 @@
 // A client whose hello was accepted.
-ghost use Rattle.std.specs.Prelude.{◌≡◌, ◌<◌, IfOk, IfSome, OnOk, OnErr, length};
+ghost use Rattle.std.specs.Prelude.{◌≡◌, ◌<◌, ◌≤◌, IfOk, IfSome, OnOk, OnErr, length};
+ghost use Rattle.xp_base.specs.Clocks.{last_moment};
 ghost use Rattle.xp_base.specs.Keyed.{HasDistinctKeys, keyed_remove};
 ghost use Rattle.client_outbox.specs.Outgoing.{with_packet};
 ghost use Rattle.client_delivery.specs.Attached.{source_key};
@@ -54,6 +55,7 @@ impl Attached {
         desk: &Desk,
         now: u64,
     ) -> Result<Attached, NoMemory>
+        requires { now ≤ last_moment }
         ensures { IfOk result (λ a. a.client ≡ attached_at desk.now conn.0 now caps) }
     {
         let _windows = desk.len();

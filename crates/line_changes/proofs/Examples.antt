@@ -2,7 +2,7 @@
 use Rattle.std.proofs.Common.{List, [], ◌∷◌, refl}
 use Rattle.std.specs.Prelude.{pos, negsuc}
 use Rattle.window_model.specs.Desktop.{Window}
-use Rattle.script_lines.specs.declared.paint.Paint.TheVariants.{Open, Copy, Move}
+use Rattle.script_lines.specs.declared.paint.Paint.TheVariants.{Open, Copy, Resize, Move}
 use Rattle.attached_client.specs.declared.change.Change.TheVariants as C
 use Rattle.line_changes.specs.Changes.{IsChangeOf}
 
@@ -19,3 +19,7 @@ copies-two = refl
 -- the size is the desktop's
 moves-one : IsChangeOf desk (Move 1 (negsuc 4) (pos 9)) (C.Moved (record { wid = 1; x = negsuc 4; y = pos 9; w = 3; h = 1 }))
 moves-one = refl
+
+-- the place is the desktop's
+sizes-one : IsChangeOf desk (Resize 1 7 9) (C.Resized (record { wid = 1; x = pos 0; y = pos 0; w = 7; h = 9 }))
+sizes-one = refl

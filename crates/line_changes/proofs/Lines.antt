@@ -95,7 +95,18 @@ module _ (finds : KeyedFinds Window) (fills : FilledShows) (places : PlacedShows
       go (Copy wid x y w h tx ty) on is = with_change (Copy wid x y w h tx ty) (C.Damaged wid (rectangle tx ty w h)) is (copies_on desk wid (rectangle x y w h) tx ty desktop on.target)
       go (Noise wid x y w h seed) on is = with_change (Noise wid x y w h seed) (C.Damaged wid (rectangle x y w h)) is
           (places_on desk wid (rectangle x y w h) (noise seed (area (rectangle x y w h))) desktop on.inside (sizes.generating seed (area (rectangle x y w h))))
-      go (Resize wid w h) on is = absurd is
+      go (Resize wid w h) on is =
+          let it = found_in (find_window desk wid) (λ window. change ≡ C.Resized (geometry wid window.x window.y w h)) is in
+          let window = found_is desk wid it.window desktop.windows it.found in
+          let named = finds.found (λ (w : Window). w.wid) desk wid it.window it.found in
+          with_change (Resize wid w h) (C.Resized (geometry wid it.window.x it.window.y w h)) it.fits (record {
+            geometry = record { first = subst (λ (k : ℕ). 1 ≤ k) named window.first; last = subst (λ (k : ℕ). k < 2 ^ 16) named window.last; across = window.across; down = window.down; wide = on.wide; high = on.high };
+            window = it.window;
+            found = it.found;
+            across = refl;
+            down = refl;
+            is = refl;
+          })
       go (Move wid x y) on is =
           let it = found_in (find_window desk wid) (λ window. change ≡ C.Moved (geometry wid x y window.w window.h)) is in
           let window = found_is desk wid it.window desktop.windows it.found in

@@ -56,6 +56,6 @@ line_opens lines line desk change once is = go line once is
     go (Fill wid x y w h c) once is = subst (at (Fill wid x y w h c)) (sym is) (opens_none lines (Fill wid x y w h c) (λ k. refl))
     go (Copy wid x y w h tx ty) once is = subst (at (Copy wid x y w h tx ty)) (sym is) (opens_none lines (Copy wid x y w h tx ty) (λ k. refl))
     go (Noise wid x y w h seed) once is = subst (at (Noise wid x y w h seed)) (sym is) (opens_none lines (Noise wid x y w h seed) (λ k. refl))
-    go (Resize wid w h) once is = absurd is
+    go (Resize wid w h) once is = moved_so (find_window desk wid) change (λ window. C.Resized (geometry wid window.x window.y w h)) (at (Resize wid w h)) is (λ window. opens_none lines (Resize wid w h) (λ k. refl))
     go (Move wid x y) once is = moved_so (find_window desk wid) change (λ window. C.Moved (geometry wid x y window.w window.h)) (at (Move wid x y)) is (λ window. opens_none lines (Move wid x y) (λ k. refl))
     go (Raise wid) once is = subst (at (Raise wid)) (sym is) (opens_none lines (Raise wid) (λ k. refl))

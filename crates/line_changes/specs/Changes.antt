@@ -1,5 +1,5 @@
 -- What a paint line is to every client. This project's own.
-use Rattle.std.specs.Prelude.{ℕ, ℤ, ◌≡◌, Bool, true, false, IsSomeAnd, List}
+use Rattle.std.specs.Prelude.{ℕ, ℤ, ◌≡◌, IsSomeAnd, List}
 use Rattle.window_model.specs.Desktop.{Window, find_window}
 use Rattle.window_model.specs.Geometry.{Geometry}
 use Rattle.script_lines.specs.declared.paint.Paint.{Paint}
@@ -16,24 +16,17 @@ geometry wid x y w h = record { wid = wid; x = x; y = y; w = w; h = h }
 abbrev pub IsMoveOf : List Window → ℕ → ℤ → ℤ → Change → Type 0
 IsMoveOf desk wid x y change = IsSomeAnd (find_window desk wid) (λ window. change ≡ C.Moved (geometry wid x y window.w window.h))
 
--- By the line, on the desktop that it meets. What a copy changes is its target. No change is a resize's yet.
+-- it has another size, and its place as it is
+abbrev pub IsResizeOf : List Window → ℕ → ℕ → ℕ → Change → Type 0
+IsResizeOf desk wid w h change = IsSomeAnd (find_window desk wid) (λ window. change ≡ C.Resized (geometry wid window.x window.y w h))
+
+-- By the line, on the desktop that it meets. What a copy changes is its target.
 abbrev pub IsChangeOf : List Window → Paint → Change → Type 0
 IsChangeOf desk (Open wid x y w h) change = change ≡ C.Opened (geometry wid x y w h)
 IsChangeOf desk (Close wid) change = change ≡ C.Closed wid
 IsChangeOf desk (Fill wid x y w h c) change = change ≡ C.Damaged wid (rectangle x y w h)
 IsChangeOf desk (Copy wid x y w h tx ty) change = change ≡ C.Damaged wid (rectangle tx ty w h)
 IsChangeOf desk (Noise wid x y w h seed) change = change ≡ C.Damaged wid (rectangle x y w h)
-IsChangeOf desk (Resize wid w h) change = ⊥
+IsChangeOf desk (Resize wid w h) change = IsResizeOf desk wid w h change
 IsChangeOf desk (Move wid x y) change = IsMoveOf desk wid x y change
 IsChangeOf desk (Raise wid) change = change ≡ C.Raised wid
-
--- the line gives a window another size
-abbrev pub resizes : Paint → Bool
-resizes (Open wid x y w h) = false
-resizes (Close wid) = false
-resizes (Fill wid x y w h c) = false
-resizes (Copy wid x y w h tx ty) = false
-resizes (Noise wid x y w h seed) = false
-resizes (Resize wid w h) = true
-resizes (Move wid x y) = false
-resizes (Raise wid) = false

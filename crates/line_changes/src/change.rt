@@ -1,10 +1,10 @@
 // A paint line as clients meet it.
-ghost use Rattle.std.specs.Prelude.{◌≡◌, false};
+ghost use Rattle.std.specs.Prelude.{◌≡◌};
 ghost use Rattle.xp_base.specs.Points.{IsRectangle};
 ghost use Rattle.paint_script.specs.Painting.{rectangle};
-ghost use Rattle.paint_script.specs.Validity.{IsPaintOn, IsMoveOn};
+ghost use Rattle.paint_script.specs.Validity.{IsPaintOn, IsMoveOn, IsResizeOn};
 ghost use Rattle.attached_client.specs.declared.change.Change.TheVariants as C;
-ghost use Rattle.line_changes.specs.Changes.{IsChangeOf, IsMoveOf, resizes};
+ghost use Rattle.line_changes.specs.Changes.{IsChangeOf, IsMoveOf, IsResizeOf};
 
 use crate::desktop::rect_of;
 use attached_client::Change;
@@ -13,10 +13,9 @@ use window_model::{Desk, Geometry};
 use xp_base::Wid;
 
 /// What the line is to a client, on the desktop that it meets. A fill, a copy and noise are the rectangle whose pixels
-/// they change: that of a copy has its target's corner. The change of a `resize` is to come.
+/// they change: that of a copy has its target's corner.
 pub fn change_of(line: &Paint, desk: &Desk) -> Change
-    requires valid { IsPaintOn desk.now line.now }
-    requires other { resizes line.now ≡ false }
+    requires { IsPaintOn desk.now line.now }
     ensures { IsChangeOf desk.now line.now result }
 {
     // For the proof: what every desktop keeps.
@@ -51,7 +50,7 @@ pub fn change_of(line: &Paint, desk: &Desk) -> Change
         } => damaged(wid, x, y, w, h),
         Paint::Move { wid, x, y } => moved(desk, wid, x, y),
         Paint::Raise { wid } => Change::Raised(wid),
-        Paint::Resize { .. } => unreachable!(),
+        Paint::Resize { wid, w, h } => resized(desk, wid, w, h),
     }
 }
 
@@ -74,4 +73,17 @@ fn moved(desk: &Desk, wid: Wid, x: i32, y: i32) -> Change
     // For the proof: what every window keeps.
     let _area = window.area();
     Change::Moved(Geometry::new(wid, x, y, window.w, window.h))
+}
+
+/// A window that has its place has another size.
+fn resized(desk: &Desk, wid: Wid, w: u32, h: u32) -> Change
+    requires { IsResizeOn desk.now wid w h }
+    ensures { IsResizeOf desk.now wid w h result }
+{
+    let Some(window) = desk.find(wid) else {
+        unreachable!()
+    };
+    // For the proof: what every window keeps.
+    let _area = window.area();
+    Change::Resized(Geometry::new(wid, window.x, window.y, w, h))
 }

@@ -17,14 +17,7 @@ pub fn paint_desk(desk: &mut Desk, line: &Paint) -> Result<(), NoMemory>
     match *line {
         Paint::Open { wid, x, y, w, h } => return desk.add(wid, x, y, w, h),
         Paint::Close { wid } => desk.remove(wid),
-        Paint::Fill {
-            wid,
-            x,
-            y,
-            w,
-            h,
-            c,
-        } => desk.fill(wid, rect_of(x, y, w, h), c),
+        Paint::Fill { wid, x, y, w, h, c } => desk.fill(wid, rect_of(x, y, w, h), c),
         Paint::Copy {
             wid,
             x,

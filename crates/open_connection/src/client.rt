@@ -2,6 +2,7 @@
 ghost use Rattle.std.specs.Prelude.{◌≡◌, ◌<◌, ◌≤◌, IfOk};
 ghost use Rattle.std.specs.Option.{option_map};
 ghost use Rattle.link_bay.specs.Connections.{OthersStay};
+ghost use Rattle.xp_base.specs.Clocks.{last_moment};
 ghost use Rattle.attached_client.specs.Client.{client_in};
 ghost use Rattle.open_connection.specs.Changing.{FitsIn, IsPreparedIn, ChangesIn};
 ghost use Rattle.open_connection.specs.Sending.{SendsThere};
@@ -17,7 +18,8 @@ pub(crate) fn preparing(
     change: Change,
     now: u64,
 ) -> Result<Option<Prepared>, NoMemory>
-    requires { FitsIn change client.old }
+    requires fits { FitsIn change client.old }
+    requires by_clock { now ≤ last_moment }
     ensures same { option_map client_in client.new ≡ option_map client_in client.old }
     ensures ready { IfOk result (IsPreparedIn change now client.new) }
 {
@@ -34,7 +36,8 @@ pub(crate) fn carry_out(
     now: u64,
     prepared: Option<Prepared>,
 )
-    requires { IsPreparedIn change now client.old prepared }
+    requires made { IsPreparedIn change now client.old prepared }
+    requires by_clock { now ≤ last_moment }
     ensures { ChangesIn change now (option_map client_in client.old) (option_map client_in client.new) }
 {
     if let Some(attached) = client {

@@ -1,5 +1,6 @@
 // A connection that is open.
 ghost use Rattle.std.specs.Prelude.{◌≡◌, ◌<◌, ◌≤◌, IfOk, option_copied};
+ghost use Rattle.xp_base.specs.Clocks.{last_moment};
 ghost use Rattle.attached_client.specs.Acting.{acts};
 ghost use Rattle.link_bay.specs.Connections.{OthersStay};
 ghost use Rattle.open_connection.specs.Connection.{fresh, connection_in, caps_in};
@@ -53,6 +54,7 @@ impl Connection {
     /// Handles the packets that become whole with this piece of its bytes, beside this desktop and at this moment, in
     /// milliseconds. The first is read as its hello.
     pub fn hear(&mut self, alloc: Global, conn: Conn, piece: &[u8], desk: &Desk, now: u64) -> Heard
+        requires { now ≤ last_moment }
         ensures { HearsPiece (acts desk.now conn.0 now) self.old piece.now result self.new }
     {
         if self.framer.feed(piece).is_err() {
@@ -80,7 +82,8 @@ impl Connection {
     /// Makes what a change at this moment, in milliseconds, needs of its client; `None` where no hello was accepted
     /// yet.
     pub fn preparing(&mut self, change: Change, now: u64) -> Result<Option<Prepared>, NoMemory>
-        requires { FitsIn change self.old.client }
+        requires fits { FitsIn change self.old.client }
+        requires by_clock { now ≤ last_moment }
         ensures same { connection_in self.new ≡ connection_in self.old }
         ensures ready { IfOk result (IsPreparedIn change now self.new.client) }
     {
@@ -89,7 +92,8 @@ impl Connection {
 
     /// Carries out a change at the moment for which it was prepared. It takes no memory.
     pub fn carry_out(&mut self, change: Change, now: u64, prepared: Option<Prepared>)
-        requires { IsPreparedIn change now self.old.client prepared }
+        requires made { IsPreparedIn change now self.old.client prepared }
+        requires by_clock { now ≤ last_moment }
         ensures { ConnectionChanges change now (connection_in self.old) (connection_in self.new) }
     {
         carry_out(&mut self.client, change, now, prepared);

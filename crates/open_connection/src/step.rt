@@ -1,5 +1,6 @@
 // The packets of one read, one after another.
-ghost use Rattle.std.specs.Prelude.{◌≡◌, ◌+◌, min, None, Some, if◌then◌else◌};
+ghost use Rattle.std.specs.Prelude.{◌≡◌, ◌+◌, ◌≤◌, min, None, Some, if◌then◌else◌};
+ghost use Rattle.xp_base.specs.Clocks.{last_moment};
 ghost use Rattle.xp_base.specs.Counts.{greatest};
 ghost use Rattle.std.specs.Option.{option_map};
 ghost use Rattle.client_talk.specs.Talked.{is_leaving};
@@ -41,6 +42,7 @@ pub(crate) fn hear_packets(
     client: &mut Option<Attached>,
     beside: &Surroundings,
 ) -> Heard
+    requires { beside.now.moment ≤ last_moment }
     ensures { HearsLeft (acts beside.now.desk.now beside.now.conn.0 beside.now.moment) framer.old (option_map client_in client.old) result framer.new (option_map client_in client.new) }
 {
     a_packet_given_was_the_next();
@@ -68,6 +70,7 @@ fn take_packet(
     place: u64,
     value: Value,
 ) -> Step
+    requires { beside.now.moment ≤ last_moment }
     ensures { TakesPacket (acts beside.now.desk.now beside.now.conn.0 beside.now.moment) (option_map client_in client.old) place value result (option_map client_in client.new) }
 {
     match client {
@@ -83,7 +86,8 @@ fn take_hello(
     place: u64,
     value: &Value,
 ) -> Step
-    requires { client.old ≡ None }
+    requires fresh { client.old ≡ None }
+    requires by_clock { beside.now.moment ≤ last_moment }
     ensures { TakesPacket (acts beside.now.desk.now beside.now.conn.0 beside.now.moment) None place value.now result (option_map client_in client.new) }
 {
     match read_hello(beside.alloc, value) {
@@ -103,6 +107,7 @@ fn take_hello(
 
 /// A message of a client whose hello was accepted.
 fn take_message(attached: &mut Attached, beside: &Surroundings, place: u64, value: &Value) -> Step
+    requires { beside.now.moment ≤ last_moment }
     ensures { TakesPacket (acts beside.now.desk.now beside.now.conn.0 beside.now.moment) (Some attached.old.client) place value.now result (Some attached.new.client) }
 {
     match read_from_client(beside.alloc, value) {

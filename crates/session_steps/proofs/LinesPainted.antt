@@ -35,6 +35,7 @@ opens_more (C.Closed j) was is numbers k none = sym (numbers k) ∙ none
 opens_more (C.Moved g) was is numbers k none = sym (numbers k) ∙ none
 opens_more (C.Raised j) was is numbers k none = sym (numbers k) ∙ none
 opens_more (C.Damaged j r) was is numbers k none = sym (numbers k) ∙ none
+opens_more (C.Resized g) was is numbers k none = sym (numbers k) ∙ none
 
 -- a mark is as it was, or begins
 abbrev MarkStays : (ℕ → Bool) → ℕ → ClientSeen → SourceSeen → Type 0
@@ -68,6 +69,7 @@ mark_stays (C.Closed j) was is wid c s' numbers mark = go (wid == j) mark
 mark_stays (C.Moved g) was is wid c s' numbers mark = same_mark was wid c s' mark
 mark_stays (C.Raised j) was is wid c s' numbers mark = same_mark was wid c s' mark
 mark_stays (C.Damaged j r) was is wid c s' numbers mark = same_mark was wid c s' mark
+mark_stays (C.Resized g) was is wid c s' numbers mark = same_mark was wid c s' mark
 
 -- a client stays what it was
 client_stays : ChangeStays → ChangeMarks → (change : Change) (now : ℕ) (was is : ℕ → Bool) (o o' : Option ClientSeen) → NumbersChange change was is → ChangesIn change now o o' → ClientStays was o o'

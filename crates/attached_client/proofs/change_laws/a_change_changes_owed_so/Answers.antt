@@ -8,4 +8,4 @@ returns c =
       read = c.what_is_written_is_read_as_the_same_message.ensures;
       written = c.a_plain_message_may_be_written.ensures;
       within = c.a_plain_message_has_a_small_value.ensures.within;
-    }) c.keyed_finds.ensures owes.paint owes.open owes.close owes.put
+    }) c.keyed_finds.ensures owes.paint owes.open owes.close owes.put owes.resize

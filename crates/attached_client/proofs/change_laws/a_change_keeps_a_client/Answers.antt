@@ -8,7 +8,7 @@ returns-clause-told c =
       read = c.what_is_written_is_read_as_the_same_message.ensures;
       written = c.a_plain_message_may_be_written.ensures;
       within = c.a_plain_message_has_a_small_value.ensures.within;
-    }) c.keyed_finds.ensures keeps.paint keeps.open keeps.close keeps.place keeps.top
+    }) c.keyed_finds.ensures keeps.paint keeps.open keeps.close keeps.place keeps.top keeps.resize
 
 pub returns-clause-fits : goal.returns-clause-fits
 returns-clause-fits c = change_fits

@@ -13,4 +13,4 @@ returns-in-Ok c = λ ignored packets fault.
 pub returns-in-Refused : goal.returns-in-Refused
 returns-in-Refused c = λ ignored packets fault.
     let a = acts c.args.beside.now.desk.now c.args.beside.now.conn.0 c.args.beside.now.moment in
-    rw c.requires (is_refused a c.args.place c.args.value.now ignored packets fault c.in-Refused.fault c.in-Refused.ensures)
+    rw c.requires.fresh (is_refused a c.args.place c.args.value.now ignored packets fault c.in-Refused.fault c.in-Refused.ensures)

@@ -13,8 +13,15 @@ invariant_of-self c =
     let at = sym (rw c.deref.ensures.value at c.in-Some.ensures.place) in
     let found = found_at c.keyed_places.ensures c.keyed_keeps.ensures c.self.inside.sources.items c.args.wid c.in-Some.place c.index_mut.result.now at (rw c.deref.ensures.value at c.in-Some.ensures.within) c.index_mut.ensures.value in
     let there = ap (λ (a : Attachment). find_source a.client.seen.sources c.args.wid) (sym c.self.view_is) ∙ found in
-    let made = c.put_damaged.ensures c.requires.0 (of_source c.args.self.now.client c.args.wid c.requires.0 c.index_mut.result.now c.args.pending there c.requires.1) in
-    put_keeps c.keyed_places.ensures c.keyed_keeps.ensures c.self.inside.sources.items c.args.wid c.in-Some.place (damaged c.requires.0 c.args.now) c.index_mut.result.now c.put_damaged.new.self c.self.invariant at c.index_mut.ensures.value made
+    let made = c.put_damaged.ensures c.requires.made.0 (of_source c.args.self.now.client c.args.wid c.requires.made.0 c.index_mut.result.now c.args.pending there c.requires.made.1) in
+    put_keeps c.keyed_places.ensures c.keyed_keeps.ensures c.self.inside.sources.items c.args.wid c.in-Some.place (damaged c.requires.made.0 c.args.now) c.index_mut.result.now c.put_damaged.new.self c.self.invariant at c.index_mut.ensures.value made
+
+pub put_damaged-requires-clause-made : goal.put_damaged-requires-clause-made
+put_damaged-requires-clause-made c =
+    let at = sym (rw c.deref.ensures.value at c.in-Some.ensures.place) in
+    let found = found_at c.keyed_places.ensures c.keyed_keeps.ensures c.self.inside.sources.items c.args.wid c.in-Some.place c.index_mut.result.now at (rw c.deref.ensures.value at c.in-Some.ensures.within) c.index_mut.ensures.value in
+    let there = ap (λ (a : Attachment). find_source a.client.seen.sources c.args.wid) (sym c.self.view_is) ∙ found in
+    (c.requires.made.0, of_source c.args.self.now.client c.args.wid c.requires.made.0 c.index_mut.result.now c.args.pending there c.requires.made.1)
 
 pub returns-in-Some : goal.returns-in-Some
 returns-in-Some c = λ r pends.
