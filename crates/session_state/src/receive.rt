@@ -47,6 +47,7 @@ impl<B: Bay + Drop> State<B> {
     fn hear(&mut self, c: Conn, connection: Connection, bytes: &[u8], count: u32) -> Received
         requires taken { slice_get self.old.slots c.0 ≡ Some Away }
         requires counted { length self.old.slots ≡ (B.provider self.old.bay).count }
+        requires early { self.old.clock ≤ last_moment }
         ensures comes { HearsOf c (connection_in connection) bytes.now count self.old (B.connection self.old.bay c.0) (B.connection self.new.bay c.0) result self.new }
         ensures others { OthersStay (B.connection self.old.bay) (B.connection self.new.bay) c.0 }
         ensures provider { B.provider self.new.bay ≡ B.provider self.old.bay }
