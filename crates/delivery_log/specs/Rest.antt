@@ -29,7 +29,7 @@ owes_nothing w = is_empty (points w.desk.wide w.desk.high (is_owed w))
 abbrev pub rest : Window → ℕ
 rest w = if not (is_idle w) then 3 else if not w.mapped || owes_nothing w then 0 else if is_empty w.pending then 1 else 2
 
--- of all windows of a client; `others` tells whether a packet waits that is on none of them
+-- of all windows of a client; `others` tells whether a packet waits that is none of theirs, as an echo, a move or a raise is
 abbrev pub greatest_rest : List Window → ℕ
 greatest_rest [] = 0
 greatest_rest (w ∷ ws) = max (rest w) (greatest_rest ws)
