@@ -1,6 +1,7 @@
 -- The distance from rest: it is the least of its table, and what the parts of a turn do to it.
 use Rattle.std.proofs.Common.{◌≡◌, ◌↔◌, ◌⊎◌, inl, inr, ℕ, ◌+◌, ◌-◌, ◌<◌, ◌≤◌, Bool, true, false, ◌&&◌, List, [], ◌∷◌, ◌++◌, length, Option, Some, None, cond, refl, sym, ap, ◌∙◌, arith}
 use Rattle.std.specs.Prelude.{All, max}
+use Rattle.std.specs.List.{list_all}
 use Rattle.std.proofs.lemmas.Bool.{cases_Bool, false_from_ne_true, false≢true}
 use Rattle.std.proofs.lemmas.List.Elements.{All-nil, All-cons, All-head, All-tail}
 use Rattle.xp_base.specs.Points.{Rectangle, is_within}
@@ -12,7 +13,7 @@ use Rattle.delivery_model.specs.Numbers.{IsNumbered}
 use Rattle.delivery_model.specs.Owed.{is_owed, owes}
 use Rattle.delivery_model.proofs.Grids.{has-points_within, has-empty, points_alike, empty-has_none, none-is_empty}
 use Rattle.delivery_model.proofs.Numberings.{numbered_step}
-use Rattle.delivery_log.specs.Rest.{FrontWaits, HaveResults, captured_in, is_idle, owes_nothing, rest, greatest_rest, rest_of, read, Result, file_all, write_all, Turn, turned, AtZero, AtOne, AtTwo, IsLeast, IsLeastOf, IsPointwise, PointwiseWhereThere, turned_all, AreQuiet, CameNearer}
+use Rattle.delivery_log.specs.Rest.{FrontWaits, HaveResults, captured_in, is_idle, owes_nothing, rest, greatest_rest, rest_of, read, Result, file_all, write_all, Turn, turned, AtZero, AtOne, AtTwo, IsLeast, IsLeastOf, IsPointwise, PointwiseWhereThere, turned_all, IsQuiet, are_idle, AreQuiet, CameNearer}
 use Rattle.delivery_log.proofs.Reading.{ReadsAs, read_reads, idle_from, filing_empties}
 use Rattle.delivery_log.proofs.Turns.{StaysAs, stays_trans, file_all_stays, write_all_writes, quiet_turn_rests, clients_come_nearer, filed_stays, front_writes}
 
@@ -276,30 +277,71 @@ results_empty lossy_shows t w first numbered waits have =
     r : Window
     r = read t.read_at t.acknowledged w
 
--- a quiet turn of a client
-each_nearer : (lossy_shows : ℕ → ℕ) (clock : ℕ) (ts : List Turn) (ws : List Window) → AreQuiet lossy_shows clock ts ws → CameNearer ws (turned_all lossy_shows ts ws)
+-- a quiet turn of a client: where it was idle, each window comes nearer
+each_nearer : (lossy_shows : ℕ → ℕ) (clock : ℕ) (ts : List Turn) (ws : List Window) → AreQuiet lossy_shows clock true ts ws → CameNearer ws (turned_all lossy_shows ts ws)
 each_nearer lossy_shows clock [] [] quiet = tt
 each_nearer lossy_shows clock [] (w ∷ ws) quiet = absurd quiet
 each_nearer lossy_shows clock (t ∷ ts) [] quiet = absurd quiet
-each_nearer lossy_shows clock (t ∷ ts) (w ∷ ws) quiet = (quiet_turn_rests lossy_shows clock t w quiet.0, each_nearer lossy_shows clock ts ws quiet.1)
+each_nearer lossy_shows clock (t ∷ ts) (w ∷ ws) quiet = (quiet_turn_rests lossy_shows clock t w (alone quiet.0), each_nearer lossy_shows clock ts ws quiet.1)
+  where
+    alone : IsQuiet lossy_shows clock true t w → IsQuiet lossy_shows clock (is_idle w) t w
+    alone q = record { kept = q.kept; numbered = q.numbered; timed = q.timed; ticked = q.ticked; acknowledged = q.acknowledged; light = λ idle. q.light refl; numbers = q.numbers; planned = q.planned; filed = q.filed; written = q.written }
 
-pub client_rests : (lossy_shows : ℕ → ℕ) (clock : ℕ) (ts : List Turn) (others : Bool) (ws : List Window) → AreQuiet lossy_shows clock ts ws
+-- where it was not, it was at 3, and each window ends at 2 or less
+end_low : (lossy_shows : ℕ → ℕ) (clock : ℕ) (idle : Bool) (t : Turn) (w : Window) → IsQuiet lossy_shows clock idle t w → rest (turned lossy_shows t w) ≤ 2
+end_low lossy_shows clock idle t w quiet = two_low v (cases_Bool v.mapped) (cases_Bool (owes_nothing v)) (cases_Bool (is_empty v.pending)) (idle_from v quiet.filed quiet.written)
+  where
+    v : Window
+    v = turned lossy_shows t w
+
+ends_low : (lossy_shows : ℕ → ℕ) (clock : ℕ) (idle : Bool) (ts : List Turn) (ws : List Window) → AreQuiet lossy_shows clock idle ts ws → greatest_rest (turned_all lossy_shows ts ws) ≤ 2
+ends_low lossy_shows clock idle [] [] quiet = omega arith
+ends_low lossy_shows clock idle [] (w ∷ ws) quiet = absurd quiet
+ends_low lossy_shows clock idle (t ∷ ts) [] quiet = absurd quiet
+ends_low lossy_shows clock idle (t ∷ ts) (w ∷ ws) quiet =
+    both_low (rest (turned lossy_shows t w)) (greatest_rest (turned_all lossy_shows ts ws)) 2 (end_low lossy_shows clock idle t w quiet.0) (ends_low lossy_shows clock idle ts ws quiet.1)
+
+some_far : (ws : List Window) → list_all is_idle ws ≡ false → 3 ≤ greatest_rest ws
+some_far [] busy = absurd (false≢true (sym busy))
+some_far (w ∷ ws) busy = which (cases_Bool (is_idle w)) (some_far ws)
+  where
+    which : (is_idle w ≡ true) ⊎ (is_idle w ≡ false) → (list_all is_idle ws ≡ false → 3 ≤ greatest_rest ws) → 3 ≤ max (rest w) (greatest_rest ws)
+    which (inr here) more = let three : rest w ≡ 3 = rest_busy w here in omega (arith, three)
+    which (inl idle) more = let behind : 3 ≤ greatest_rest ws = more (sym (ap (λ (b : Bool). b && list_all is_idle ws) idle) ∙ busy) in omega (arith, behind)
+
+busy_far : (others : Bool) (ws : List Window) → are_idle others ws ≡ false → 3 ≤ rest_of others ws
+busy_far true ws busy = omega arith
+busy_far false ws busy = some_far ws busy
+
+pub client_rests : (lossy_shows : ℕ → ℕ) (clock : ℕ) (ts : List Turn) (others : Bool) (ws : List Window) → AreQuiet lossy_shows clock (are_idle others ws) ts ws
     → rest_of false (turned_all lossy_shows ts ws) ≤ rest_of others ws - 1
-client_rests lossy_shows clock ts others ws quiet = clients_come_nearer others ws (turned_all lossy_shows ts ws) (each_nearer lossy_shows clock ts ws quiet)
+client_rests lossy_shows clock ts others ws quiet = which (cases_Bool (are_idle others ws))
+  where
+    after : List Window
+    after = turned_all lossy_shows ts ws
+
+    which : (are_idle others ws ≡ true) ⊎ (are_idle others ws ≡ false) → rest_of false after ≤ rest_of others ws - 1
+    which (inl idle) = clients_come_nearer others ws after (each_nearer lossy_shows clock ts ws (rw idle at quiet))
+    which (inr busy) = omega (arith, ends_low lossy_shows clock (are_idle others ws) ts ws quiet, busy_far others ws busy)
 
 three_less : (a b c d : ℕ) → a ≤ 3 → b ≤ a - 1 → c ≤ b - 1 → d ≤ c - 1 → d ≤ 0
 three_less a b c d low first second third = omega (arith, low, first, second, third)
 
-pub three_turns : (lossy_shows : ℕ → ℕ) (first second third : ℕ) (ts us vs : List Turn) (ws : List Window) → AreQuiet lossy_shows first ts ws
-    → AreQuiet lossy_shows second us (turned_all lossy_shows ts ws) → AreQuiet lossy_shows third vs (turned_all lossy_shows us (turned_all lossy_shows ts ws))
+pub three_turns : (lossy_shows : ℕ → ℕ) (first second third : ℕ) (ts us vs : List Turn) (others : Bool) (ws : List Window) → AreQuiet lossy_shows first (are_idle others ws) ts ws
+    → AreQuiet lossy_shows second (are_idle false (turned_all lossy_shows ts ws)) us (turned_all lossy_shows ts ws)
+    → AreQuiet lossy_shows third (are_idle false (turned_all lossy_shows us (turned_all lossy_shows ts ws))) vs (turned_all lossy_shows us (turned_all lossy_shows ts ws))
     → All AtZero (turned_all lossy_shows vs (turned_all lossy_shows us (turned_all lossy_shows ts ws)))
-three_turns lossy_shows first second third ts us vs ws once twice thrice =
+three_turns lossy_shows first second third ts us vs others ws once twice thrice =
     rows_of 0 AtZero (turned_all lossy_shows vs then_twice) (any_window (λ (w : Window). rest w ≤ 0 → AtZero w) (turned_all lossy_shows vs then_twice) (λ w. (zero_rows w).0))
-    (three_less 3 (greatest_rest then_once) (greatest_rest then_twice) (greatest_rest (turned_all lossy_shows vs then_twice)) (omega arith)
-    (client_rests lossy_shows first ts true ws once) (client_rests lossy_shows second us false then_once twice) (client_rests lossy_shows third vs false then_twice thrice))
+    (three_less (rest_of others ws) (greatest_rest then_once) (greatest_rest then_twice) (greatest_rest (turned_all lossy_shows vs then_twice)) (at_most others)
+    (client_rests lossy_shows first ts others ws once) (client_rests lossy_shows second us false then_once twice) (client_rests lossy_shows third vs false then_twice thrice))
   where
     then_once : List Window
     then_once = turned_all lossy_shows ts ws
 
     then_twice : List Window
     then_twice = turned_all lossy_shows us then_once
+
+    at_most : (others : Bool) → rest_of others ws ≤ 3
+    at_most true = omega arith
+    at_most false = low_of 3 (λ (w : Window). Unit {0}) ws (any_window (λ (w : Window). Unit {0} → rest w ≤ 3) ws (λ w is. three_low w (cases_Bool (is_idle w)))) (any_window (λ (w : Window). Unit {0}) ws (λ w. tt))

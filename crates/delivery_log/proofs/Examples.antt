@@ -3,10 +3,11 @@
 use Rattle.std.proofs.Common.{◌≡◌, ℕ, Bool, true, false, List, [], ◌∷◌, ◌++◌, None, refl}
 use Rattle.xp_base.specs.declared.coding.Coding.TheVariants as C
 use Rattle.delivery_model.specs.Grids.{each_point, has, number, number_in}
-use Rattle.delivery_model.specs.Events.{is_empty}
-use Rattle.delivery_log.specs.Log.{Entry, Fresh, Kept, Damaged, JobCaptured, DrawQueued, DrawWritten}
-use Rattle.delivery_log.specs.Stale.{since_origin, are_repairing, written_draws, queued_draws}
-use Rattle.delivery_log.proofs.Situations.{Line, answers, checks, all_stand, logged, rect, next_number, lossy_then_exact, one_rectangle_for_many, unmapped_while_encoding, painted_while_encoding, exact_over_lossy, grown, shrunk_and_grown}
+use Rattle.delivery_model.specs.Window.{Window}
+use Rattle.delivery_model.specs.Events.{is_empty, started, Acknowledge, Resize}
+use Rattle.delivery_log.specs.Log.{Entry, Fresh, Kept, Damaged, JobCaptured, DrawQueued, DrawWritten, entries}
+use Rattle.delivery_log.specs.Stale.{since_origin, are_repairing, is_stale, is_stale_queued, written_draws, queued_draws}
+use Rattle.delivery_log.proofs.Situations.{Line, answers, checks, all_stand, logged, rect, black, next_number, lossy_then_exact, one_rectangle_for_many, unmapped_while_encoding, painted_while_encoding, exact_over_lossy, grown, shrunk_and_grown}
 
 abbrev answered : List Line → List (List ℕ)
 answered lines = answers next_number [] None lines
@@ -161,3 +162,36 @@ shrunk_logged = refl
 
 shrunk_origin : (since_origin 2 0 shrunk_log ≡ DrawWritten 2 ∷ []) × ((relieved shrunk_log 2 0 ≡ false) × ((relieved shrunk_log 1 0 ≡ true) × (queued_draws shrunk_log ≡ 1 ∷ 2 ∷ [])))
 shrunk_origin = (refl, (refl, (refl, refl)))
+
+-- the example of docs/MODEL.md, row by row: whether the one point is stale, and whether it is once all is written
+abbrev told : List Entry → List Bool
+told log = is_stale (black 1 1) log 0 0 ∷ is_stale_queued (black 1 1) log 0 0 ∷ []
+
+abbrev drawn_once : List Entry
+drawn_once = Fresh ∷ JobCaptured 1 (rect 0 0 1 1) C.Exact ∷ DrawQueued 1 1 ∷ DrawWritten 1 ∷ []
+
+abbrev damaged_again : List Entry
+damaged_again = drawn_once ++ Damaged (rect 0 0 1 1) ∷ JobCaptured 2 (rect 0 0 1 1) C.Exact ∷ Damaged (rect 0 0 1 1) ∷ []
+
+abbrev drawn_late : List Entry
+drawn_late = damaged_again ++ DrawQueued 2 2 ∷ DrawWritten 2 ∷ []
+
+example_begins : (told (Fresh ∷ []) ≡ true ∷ true ∷ []) × ((told (Fresh ∷ JobCaptured 1 (rect 0 0 1 1) C.Exact ∷ DrawQueued 1 1 ∷ []) ≡ true ∷ false ∷ []) × (told drawn_once ≡ false ∷ false ∷ []))
+example_begins = (refl, (refl, refl))
+
+example_goes_on : (told (drawn_once ++ Damaged (rect 0 0 1 1) ∷ JobCaptured 2 (rect 0 0 1 1) C.Exact ∷ []) ≡ true ∷ true ∷ []) × ((told damaged_again ≡ true ∷ true ∷ []) × (told drawn_late ≡ true ∷ true ∷ []))
+example_goes_on = (refl, (refl, refl))
+
+example_ends : told (drawn_late ++ JobCaptured 3 (rect 0 0 1 1) C.Exact ∷ DrawQueued 3 3 ∷ DrawWritten 3 ∷ []) ≡ false ∷ false ∷ []
+example_ends = refl
+
+-- a late client's draw counts as damage as far as it lies in the window: of draw 1 a part does, of draw 2 nothing
+abbrev part_beyond : Window
+part_beyond = record (started (black 2 1) 0) { unacknowledged = record { sequence = 1; rect = rect 1 0 3 1 } ∷ record { sequence = 2; rect = rect 2 0 2 1 } ∷ []; next_sequence = 3 }
+
+late_entries : (entries (Acknowledge 1 true 500) part_beyond ≡ Damaged (rect 1 0 1 1) ∷ []) × ((entries (Acknowledge 2 true 500) part_beyond ≡ []) × ((entries (Acknowledge 1 false 500) part_beyond ≡ []) × (entries (Acknowledge 3 true 500) part_beyond ≡ [])))
+late_entries = (refl, (refl, (refl, refl)))
+
+-- a resize has the size that was
+resize_entries : entries (Resize 5 4 500) part_beyond ≡ Kept 2 1 ∷ []
+resize_entries = refl

@@ -18,7 +18,7 @@ use Rattle.delivery_model.specs.Owed.{owes}
 use Rattle.delivery_model.specs.Laws.{KeptWhereThere}
 use Rattle.delivery_model.proofs.Runs.{kept_run}
 use Rattle.delivery_log.specs.Times.{IsTimed, TimedWhereThere}
-use Rattle.delivery_log.specs.Rest.{is_none, is_idle, rest, rest_of, read, Result, file_all, write_all, Turn, turned, is_waiting, AllAcknowledged, FrontWaits, HaveResults, CameNearer, IsQuiet, IsLeast}
+use Rattle.delivery_log.specs.Rest.{is_none, is_idle, rest, rest_of, read, Result, file_all, write_all, Turn, turned, is_waiting, AllAcknowledged, FrontWaits, HaveResults, CameNearer, turned_all, IsQuiet, are_idle, AreQuiet, IsLeast}
 use Rattle.delivery_log.proofs.Situations.{next_number, rect, exact, coarse, result, coarsely, black}
 use Rattle.delivery_log.proofs.Neighbours.{end_of, pends, in_hand, repaired, lossy, pends_lossy_plan, never}
 
@@ -342,7 +342,7 @@ not_short claim = stays_two (rest (turned next_number (idle_turn 250 1) slow)) (
 
 -- wrong: that one quiet turn is enough. A lossy draw is repaired by the next.
 abbrev OneTurnRests : Type 0
-OneTurnRests = (clock : ℕ) (t : Turn) (w : Window) → IsQuiet next_number clock t w → rest (turned next_number t w) ≡ 0
+OneTurnRests = (clock : ℕ) (t : Turn) (w : Window) → IsQuiet next_number clock (is_idle w) t w → rest (turned next_number t w) ≡ 0
 
 abbrev lossy_turn : Turn
 lossy_turn = record {
@@ -360,14 +360,14 @@ lossy_turned : ((turned next_number lossy_turn pending).jobs ≡ []) × (((turne
 unfolding each_point has number number_in is_empty
 lossy_turned = (refl, (refl, refl))
 
-lossy_quiet : IsQuiet next_number 0 lossy_turn pending
+lossy_quiet : IsQuiet next_number 0 true lossy_turn pending
 lossy_quiet = record {
   kept = pending_kept;
   numbered = pending_numbered;
   timed = record { pending = omega arith; lossy = omega arith; least = omega arith; greatest = omega arith };
   ticked = omega arith;
   acknowledged = All-nil _;
-  light = omega arith;
+  light = λ idle. omega arith;
   numbers = omega arith;
   planned = λ allowed. pends_lossy_plan;
   filed = lossy_turned.0;
@@ -393,6 +393,28 @@ not_one_window claim = still_two (rest (end_of repaired)) (rest pending) resting
 
     still_two : (a b : ℕ) → a ≡ 0 → b ≡ 2 → max a (max b 0) ≤ max a (max b 0) - 1 → ⊥
     still_two a b none two le = omega (arith, none, two, le)
+
+-- wrong: that each window of a client comes nearer by itself. Where others of them are busy, the weight may refuse its capture; it is
+-- the client that comes nearer then.
+abbrev EachComesNearer : Type 0
+EachComesNearer = (clock : ℕ) (ts : List Turn) (others : Bool) (ws : List Window) → AreQuiet next_number clock (are_idle others ws) ts ws → CameNearer ws (turned_all next_number ts ws)
+
+heavy_quiet : IsQuiet next_number 0 false heavy_turn pending
+heavy_quiet = record {
+  kept = pending_kept;
+  numbered = pending_numbered;
+  timed = record { pending = omega arith; lossy = omega arith; least = omega arith; greatest = omega arith };
+  ticked = omega arith;
+  acknowledged = All-nil _;
+  light = λ idle. absurd (false≢true idle);
+  numbers = omega arith;
+  planned = λ allowed. absurd (false≢true (sym heavy_refused ∙ allowed));
+  filed = heavy_idle.0;
+  written = heavy_idle.1;
+}
+
+not_each : EachComesNearer → ⊥
+not_each claim = stays_two (rest (turned next_number heavy_turn pending)) (rest pending) heavy_rests pending_rest (claim 0 (heavy_turn ∷ []) true (pending ∷ []) (heavy_quiet, tt)).0
 
 -- wrong: that a packet on none of the windows may still wait
 abbrev OthersMayWait : Type 0

@@ -222,7 +222,7 @@ rest_three w = which (is_idle w) (w.mapped) (owes_nothing w) (is_empty w.pending
     which true true false false = omega arith
 
 -- a quiet turn
-module _ (lossy_shows : ℕ → ℕ) (clock : ℕ) (t : Turn) (w : Window) (quiet : IsQuiet lossy_shows clock t w) where
+module _ (lossy_shows : ℕ → ℕ) (clock : ℕ) (t : Turn) (w : Window) (quiet : IsQuiet lossy_shows clock (is_idle w) t w) where
   abbrev r : Window
   r = read t.read_at t.acknowledged w
 
@@ -289,7 +289,7 @@ module _ (lossy_shows : ℕ → ℕ) (clock : ℕ) (t : Turn) (w : Window) (quie
 
   -- an idle window that is not clean is captured
   now_allowed : is_idle w ≡ true → w.mapped ≡ true → is_clean r ≡ false → answered ≡ true
-  now_allowed idle mapped unclean = allowed_where t.now t.weight t.first r due (reading_unloads t.first t.read_at t.acknowledged w quiet.numbered idle quiet.acknowledged) quiet.light quiet.numbers (as_read.mapped ∙ mapped) unclean
+  now_allowed idle mapped unclean = allowed_where t.now t.weight t.first r due (reading_unloads t.first t.read_at t.acknowledged w quiet.numbered idle quiet.acknowledged) (quiet.light idle) quiet.numbers (as_read.mapped ∙ mapped) unclean
     where
       due : earliest r ≤ t.now
       due = omega (arith, due_after clock r (read_timed clock t.read_at t.acknowledged w quiet.timed), quiet.ticked)

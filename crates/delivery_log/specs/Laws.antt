@@ -13,7 +13,7 @@ use Rattle.delivery_log.specs.Log.{Entry, log_after, log_of}
 use Rattle.delivery_log.specs.Stale.{is_stale, is_stale_queued}
 use Rattle.delivery_log.specs.Agreement.{Agrees, AgreesWhereThere}
 use Rattle.delivery_log.specs.Times.{IsTimed, TimedWhereThere, IsBy}
-use Rattle.delivery_log.specs.Rest.{Turn, Result, IsQuiet, captured_in, turned, read, file_all, write_all, rest, rest_of, is_idle, AllAcknowledged, FrontWaits, HaveResults, CameNearer, AtZero, IsLeast, IsLeastOf, IsPointwise, PointwiseWhereThere, turned_all, AreQuiet}
+use Rattle.delivery_log.specs.Rest.{Turn, Result, IsQuiet, captured_in, turned, read, file_all, write_all, rest, rest_of, is_idle, AllAcknowledged, FrontWaits, HaveResults, CameNearer, AtZero, IsLeast, IsLeastOf, IsPointwise, PointwiseWhereThere, turned_all, are_idle, AreQuiet}
 
 -- for every log: where it agrees with the window before an event, it does after it, with the event's entries
 abbrev pub EventsKeepAgreement : Type 0
@@ -93,7 +93,7 @@ EndsNearer = (lossy_shows : ℕ → ℕ) (now : ℕ) (results : List Result) (wr
 
 -- a quiet turn brings a window one nearer to rest, or leaves it there
 abbrev pub QuietTurnsRest : Type 0
-QuietTurnsRest = (lossy_shows : ℕ → ℕ) (clock : ℕ) (t : Turn) (w : Window) → IsQuiet lossy_shows clock t w → rest (turned lossy_shows t w) ≤ rest w - 1
+QuietTurnsRest = (lossy_shows : ℕ → ℕ) (clock : ℕ) (t : Turn) (w : Window) → IsQuiet lossy_shows clock (is_idle w) t w → rest (turned lossy_shows t w) ≤ rest w - 1
 
 -- where each window came one nearer, their client did; whether other packets waited before or not, none does afterwards
 abbrev pub NearerTogether : Type 0
@@ -101,13 +101,14 @@ NearerTogether = (others : Bool) (before after : List Window) → CameNearer bef
 
 -- so a quiet turn of a client brings it one nearer, or leaves it at rest
 abbrev pub ClientsRest : Type 0
-ClientsRest = (lossy_shows : ℕ → ℕ) (clock : ℕ) (ts : List Turn) (others : Bool) (ws : List Window) → AreQuiet lossy_shows clock ts ws
+ClientsRest = (lossy_shows : ℕ → ℕ) (clock : ℕ) (ts : List Turn) (others : Bool) (ws : List Window) → AreQuiet lossy_shows clock (are_idle others ws) ts ws
     → rest_of false (turned_all lossy_shows ts ws) ≤ rest_of others ws - 1
 
 -- and after three of them, with nothing between, nothing on its mapped windows is owed
 abbrev pub ThreeTurnsRepair : Type 0
-ThreeTurnsRepair = (lossy_shows : ℕ → ℕ) (first second third : ℕ) (ts us vs : List Turn) (ws : List Window) → AreQuiet lossy_shows first ts ws
-    → AreQuiet lossy_shows second us (turned_all lossy_shows ts ws) → AreQuiet lossy_shows third vs (turned_all lossy_shows us (turned_all lossy_shows ts ws))
+ThreeTurnsRepair = (lossy_shows : ℕ → ℕ) (first second third : ℕ) (ts us vs : List Turn) (others : Bool) (ws : List Window) → AreQuiet lossy_shows first (are_idle others ws) ts ws
+    → AreQuiet lossy_shows second (are_idle false (turned_all lossy_shows ts ws)) us (turned_all lossy_shows ts ws)
+    → AreQuiet lossy_shows third (are_idle false (turned_all lossy_shows us (turned_all lossy_shows ts ws))) vs (turned_all lossy_shows us (turned_all lossy_shows ts ws))
     → All AtZero (turned_all lossy_shows vs (turned_all lossy_shows us (turned_all lossy_shows ts ws)))
 
 -- the distance is the least whose row holds; and every event keeps what that needs

@@ -1,6 +1,6 @@
 -- How far a client is from rest, and what a quiet turn does. This project's own.
 use Rattle.std.specs.Prelude.{ℕ, ◌+◌, ◌-◌, ◌≡◌, ◌≤◌, ◌<◌, ◌↔◌, ◌^◌, max, Bool, true, false, not, ◌&&◌, ◌||◌, Option, Some, None, List, [], ◌∷◌, nat_eq, if◌then◌else◌, All}
-use Rattle.std.specs.List.{list_any}
+use Rattle.std.specs.List.{list_any, list_all}
 use Rattle.xp_base.specs.Points.{is_within}
 use Rattle.xp_base.specs.Captures.{Captured}
 use Rattle.delivery_model.specs.Grids.{points, has}
@@ -29,7 +29,7 @@ owes_nothing w = is_empty (points w.desk.wide w.desk.high (is_owed w))
 abbrev pub rest : Window → ℕ
 rest w = if not (is_idle w) then 3 else if not w.mapped || owes_nothing w then 0 else if is_empty w.pending then 1 else 2
 
--- of all windows of a client; `others` tells whether a packet waits that is on none of them
+-- of all windows of a client; `others` tells whether a packet waits that is none of theirs, as an echo, a move or a raise is
 abbrev pub greatest_rest : List Window → ℕ
 greatest_rest [] = 0
 greatest_rest (w ∷ ws) = max (rest w) (greatest_rest ws)
@@ -115,15 +115,15 @@ is_waiting k (Draws d ∷ packets) = nat_eq d.sequence k || is_waiting k packets
 abbrev pub AllAcknowledged : List ℕ → Window → Type 0
 AllAcknowledged ks w = All (λ (s : Sent). (is_waiting s.sequence w.packets || list_any (λ (k : ℕ). nat_eq k s.sequence) ks) ≡ true) w.unacknowledged
 
--- a quiet turn of one window, where the clock was `clock` before it: 500 milliseconds pass, weight and numbers allow a capture, and
--- in the end no job is in hand and no packet waits
-pub record IsQuiet (lossy_shows : ℕ → ℕ) (clock : ℕ) (t : Turn) (w : Window) : Type 0 where
+-- a quiet turn of one window, where the clock was `clock` before it: 500 milliseconds pass, numbers allow a capture, and so does the
+-- weight where the client was idle; and in the end no job is in hand and no packet waits
+pub record IsQuiet (lossy_shows : ℕ → ℕ) (clock : ℕ) (idle : Bool) (t : Turn) (w : Window) : Type 0 where
   pub kept : IsKept w
   pub numbered : IsNumbered t.first w
   pub timed : IsTimed clock w
   pub ticked : clock + 500 ≤ t.now
   pub acknowledged : AllAcknowledged t.acknowledged w
-  pub light : t.weight < 33_554_432
+  pub light : idle ≡ true → t.weight < 33_554_432
   pub numbers : t.first < 2 ^ 62
   pub planned : is_allowed (capture_answer t.now t.weight t.first (read t.read_at t.acknowledged w)) ≡ true → IsCaptureOf (read t.read_at t.acknowledged w) t.plan
   pub filed : (turned lossy_shows t w).jobs ≡ []
@@ -151,9 +151,13 @@ turned_all lossy_shows [] ws = []
 turned_all lossy_shows (t ∷ ts) [] = []
 turned_all lossy_shows (t ∷ ts) (w ∷ ws) = turned lossy_shows t w ∷ turned_all lossy_shows ts ws
 
--- it is quiet where it is quiet for each window
-abbrev pub AreQuiet : (ℕ → ℕ) → ℕ → List Turn → List Window → Type 0
-AreQuiet lossy_shows clock [] [] = Unit {0}
-AreQuiet lossy_shows clock [] (w ∷ ws) = ⊥
-AreQuiet lossy_shows clock (t ∷ ts) [] = ⊥
-AreQuiet lossy_shows clock (t ∷ ts) (w ∷ ws) = IsQuiet lossy_shows clock t w × AreQuiet lossy_shows clock ts ws
+-- whether a client is idle: all its windows are, and no other packet waits
+abbrev pub are_idle : Bool → List Window → Bool
+are_idle others ws = not others && list_all is_idle ws
+
+-- a client's turn is quiet where it is quiet for each window
+abbrev pub AreQuiet : (ℕ → ℕ) → ℕ → Bool → List Turn → List Window → Type 0
+AreQuiet lossy_shows clock idle [] [] = Unit {0}
+AreQuiet lossy_shows clock idle [] (w ∷ ws) = ⊥
+AreQuiet lossy_shows clock idle (t ∷ ts) [] = ⊥
+AreQuiet lossy_shows clock idle (t ∷ ts) (w ∷ ws) = IsQuiet lossy_shows clock idle t w × AreQuiet lossy_shows clock idle ts ws

@@ -1,10 +1,8 @@
 -- One point: what the log says there of each draw and job, and how that agrees with what the window has there.
 use Rattle.std.specs.Prelude.{ℕ, ◌≡◌, Bool, true, false, not, ◌&&◌, ◌||◌, List, [], ◌∷◌, ◌++◌, map}
 use Rattle.std.specs.List.{list_any}
-use Rattle.xp_base.specs.Points.{is_in}
-use Rattle.delivery_model.specs.Grids.{has}
 use Rattle.delivery_model.specs.Window.{Job, Draw, Window}
-use Rattle.delivery_model.specs.Point.{is_exact}
+use Rattle.delivery_model.specs.Point.{is_exact, draw_at, job_at, point_at}
 use Rattle.delivery_model.specs.Invariant.{draws_of}
 use Rattle.delivery_log.specs.Log.{Entry}
 use Rattle.delivery_log.specs.Stale.{since_origin, is_capture, is_repair, is_lossy_over, written_draws}
@@ -30,19 +28,20 @@ pub record Seen : Type 0 where
   pub pending : Bool
   pub lossy : Bool
 
--- what was written relieves nothing any more
+-- what it covers, whether it is exact, and what it relieves is as the invariant marks it (`draw_at`, `job_at`, `point_at`); what was
+-- written relieves nothing any more
 abbrev pub written_at : ℕ → ℕ → List Entry → ℕ → Trace
 written_at x y log s = record { repair = is_repair x y log s; lossy = is_lossy_over x y log s; relieves = false }
 
 abbrev pub waiting_at : ℕ → ℕ → List Entry → Draw → Trace
-waiting_at x y log d = record { repair = is_repair x y log d.sequence; lossy = is_lossy_over x y log d.sequence; relieves = has d.relief x y }
+waiting_at x y log d = record { repair = is_repair x y log d.sequence; lossy = is_lossy_over x y log d.sequence; relieves = (draw_at d x y).relieves }
 
 abbrev pub hand_at : ℕ → ℕ → List Entry → Job → Hand
 hand_at x y log j = record {
-  covers = is_in j.capture.rect x y;
-  exact = is_exact j.capture.coding;
+  covers = (job_at j x y).covers;
+  exact = is_exact (job_at j x y).coding;
   after = list_any (is_capture j.number) (since_origin x y log);
-  relieves = has j.relief x y;
+  relieves = (job_at j x y).relieves;
 }
 
 -- the log and the window at a point
@@ -51,8 +50,8 @@ seen_at x y log w = record {
   written = map (written_at x y log) (written_draws log);
   waiting = map (waiting_at x y log) (draws_of w.packets);
   hand = map (hand_at x y log) w.jobs;
-  pending = has w.pending x y;
-  lossy = has w.lossy x y;
+  pending = (point_at w x y).pending;
+  lossy = (point_at w x y).lossy;
 }
 
 abbrev pub any_repair : List Trace → Bool

@@ -1,5 +1,5 @@
 -- A text, line by line.
-use Rattle.std.proofs.Common.{◌≡◌, inl, inr, ℕ, zero, suc, ◌+◌, ◌-◌, ◌<◌, ◌≤◌, Bool, true, false, Option, Some, None, Result, Ok, Err, List, [], ◌∷◌, ◌++◌, length, take, drop, get_or, cond, leb, ltb, refl, sym, ap, ◌∙◌, arith, subst}
+use Rattle.std.proofs.Common.{◌≡◌, ◌⊎◌, inl, inr, ℕ, zero, suc, ◌+◌, ◌-◌, ◌<◌, ◌≤◌, Bool, true, false, Option, Some, None, Result, Ok, Err, List, [], ◌∷◌, ◌++◌, length, take, drop, get_or, cond, leb, ltb, refl, sym, ap, ◌∙◌, arith, subst}
 use Rattle.std.specs.Option.{option_map, option_or}
 use Rattle.std.specs.List.{position_or_len}
 use Rattle.std.specs.Prelude.{position, not}
@@ -17,7 +17,7 @@ use Rattle.script_lines.specs.Reading.{Gives as OneGives}
 use Rattle.paint_script.specs.Faults.{fault_after}
 use Rattle.paint_script.specs.declared.fault.ScriptFault.{ScriptFault}
 use Rattle.paint_script.specs.Text.{made, made_of, own_fault, line_fault, fault_at, first_fault, unless, script_of, Fails, Takes, failed_at, is_plan, first_plan_line}
-use Rattle.paint_script.specs.Laws.{IsScriptOf, IsFaultOf, ScriptsOfTexts}
+use Rattle.paint_script.specs.Laws.{IsScriptOf, IsFaultOf, IsTooLong, ScriptsOfTexts}
 
 -- ---- the first fault
 
@@ -197,8 +197,61 @@ fault_is : (text : List ℕ) (place : ℕ) (fault : ScriptFault) → IsFaultOf t
 fault_is text place fault is =
     fault_stays text place fault.why is.short is.there (none_from (lines_of text) place is.first) is.is ∙ ap (λ n. Err (record { line = n; why = fault.why })) (sym is.number)
 
+err_same : (a b : ScriptFault) → ◌≡◌ {A = Result (List Line) ScriptFault} (Err a) (Err b) → b ≡ a
+err_same a b e = cc
+
+long_is : (text : List ℕ) (fault : ScriptFault) → IsTooLong text fault → script_of text ≡ Err fault
+long_is text fault is = script_long text is.long ∙ ap (λ (f : ScriptFault). Err f) (sym is.is)
+
+-- the first fault of so many lines, by the line that it names
+record IsFirst (texts : List (List ℕ)) (count : ℕ) (fault : ScriptFault) : Type 0 where
+  within : fault.line - 1 < count
+  number : fault.line ≡ (fault.line - 1) + 1
+  is : fault_at texts (fault.line - 1) ≡ Some fault.why
+  first : (before : ℕ) → before < fault.line - 1 → fault_at texts before ≡ None
+
+first_here : (texts : List (List ℕ)) (count : ℕ) (w : Why) → first_fault texts count ≡ None → fault_at texts count ≡ Some w → IsFirst texts (suc count) (fault_with count w)
+first_here texts count w none here =
+    let place : (count + 1) - 1 ≡ count = omega arith in
+    record {
+      within = omega arith;
+      number = omega arith;
+      is = ap (fault_at texts) place ∙ here;
+      first = λ before less. none_before texts count none before (omega (arith, less));
+    }
+
+here_or : (texts : List (List ℕ)) (count : ℕ) (fault : ScriptFault) (o : Option Why) → first_fault texts count ≡ None → fault_at texts count ≡ o → option_map (fault_with count) o ≡ Some fault
+    → IsFirst texts (suc count) fault
+here_or texts count fault None none here e = absurd cc
+here_or texts count fault (Some w) none here e = let same : fault_with count w ≡ fault = cc in subst (λ (f : ScriptFault). IsFirst texts (suc count) f) same (first_here texts count w none here)
+
+wider : (texts : List (List ℕ)) (count : ℕ) (fault : ScriptFault) → IsFirst texts count fault → IsFirst texts (suc count) fault
+wider texts count fault is = record { within = omega (arith, is.within); number = is.number; is = is.is; first = is.first }
+
+first_or : (texts : List (List ℕ)) (count : ℕ) (fault : ScriptFault) (o : Option ScriptFault) → first_fault texts count ≡ o → option_or o (option_map (fault_with count) (fault_at texts count)) ≡ Some fault
+    → ((g : ScriptFault) → first_fault texts count ≡ Some g → IsFirst texts count g) → IsFirst texts (suc count) fault
+first_or texts count fault None none e before = here_or texts count fault (fault_at texts count) none refl e
+first_or texts count fault (Some g) is e before = let same : g ≡ fault = cc in subst (λ (f : ScriptFault). IsFirst texts (suc count) f) same (wider texts count g (before g is))
+
+some_first : (texts : List (List ℕ)) (count : ℕ) (fault : ScriptFault) → first_fault texts count ≡ Some fault → IsFirst texts count fault
+unfolding first_fault
+some_first texts zero fault e = absurd cc
+some_first texts (suc count) fault e = first_or texts count fault (first_fault texts count) refl e (λ g is. some_first texts count g is)
+
+unless_err : (o : Option ScriptFault) (made_lines : List Line) (fault : ScriptFault) → unless o made_lines ≡ Err fault → o ≡ Some fault
+unless_err None made_lines fault e = absurd cc
+unless_err (Some f) made_lines fault e = cc
+
+refused_is : (text : List ℕ) (fault : ScriptFault) → script_of text ≡ Err fault → IsTooLong text fault ⊎ IsFaultOf text (fault.line - 1) fault
+refused_is text fault e = elim (cases_lt 33554432 (length text)) [
+  | inl long ↦ inl (record { long = long; is = err_same _ fault (sym (script_long text long) ∙ e) })
+  | inr short ↦
+      let first = some_first (lines_of text) (length (lines_of text)) fault (unless_err (first_fault (lines_of text) (length (lines_of text))) (made_of (lines_of text)) fault (sym (script_short text short) ∙ e)) in
+      inr (record { short = short; there = first.within; number = first.number; is = first.is; first = first.first })
+]
+
 pub scripts_of_texts_lem : ScriptsOfTexts
-scripts_of_texts_lem = record { read = read_is; only = read_only; fault = fault_is }
+scripts_of_texts_lem = record { read = read_is; only = read_only; fault = fault_is; long = long_is; refused = refused_is }
 
 -- ---- the first plan line
 

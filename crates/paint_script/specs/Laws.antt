@@ -1,9 +1,10 @@
 -- What the definitions of scripts come to.
-use Rattle.std.specs.Prelude.{ℕ, ℤ, ◌+◌, ◌<◌, ◌≤◌, ◌≡◌, true, false, ◌||◌, Option, Some, None, Ok, Err, List, [], length, slice_get, take}
+use Rattle.std.specs.Prelude.{ℕ, ℤ, ◌+◌, ◌-◌, ◌<◌, ◌≤◌, ◌≡◌, ◌⊎◌, true, false, ◌||◌, Option, Some, None, Ok, Err, List, [], length, slice_get, take}
 use Rattle.window_model.specs.Desktop.{Window, IsDesktop, has_window, opened, filled_on, copied_on, noised_on, resized_on, moved_on, raised, without_window}
 use Rattle.script_lines.specs.declared.paint.Paint.{Paint}
 use Rattle.script_lines.specs.declared.paint.Paint.TheVariants.{Open, Close, Fill, Copy, Noise, Resize, Move, Raise}
 use Rattle.script_lines.specs.declared.line.Line.{Line}
+use Rattle.script_lines.specs.declared.why.Why.TheVariants as why
 use Rattle.script_lines.specs.Text.{lines_of}
 use Rattle.paint_script.specs.declared.fault.ScriptFault.{ScriptFault}
 use Rattle.paint_script.specs.Painting.{rectangle, painted, desk_at, last_desk}
@@ -103,8 +104,15 @@ pub record IsFaultOf (text : List ℕ) (place : ℕ) (fault : ScriptFault) : Typ
   pub is : fault_at (lines_of text) place ≡ Some fault.why
   pub first : (before : ℕ) → before < place → fault_at (lines_of text) before ≡ None
 
+-- a text is too long, and has that fault at line 0, whatever its lines are
+pub record IsTooLong (text : List ℕ) (fault : ScriptFault) : Type 0 where
+  pub long : 33554432 < length text
+  pub is : fault ≡ record { line = 0; why = why.Bytes }
+
 -- which lines a text is, and which fault it has
 pub record ScriptsOfTexts : Type 0 where
   pub read : (text : List ℕ) (lines : List Line) → script_of text ≡ Ok lines → IsScriptOf text lines
   pub only : (text : List ℕ) (lines : List Line) → IsScriptOf text lines → script_of text ≡ Ok lines
   pub fault : (text : List ℕ) (place : ℕ) (fault : ScriptFault) → IsFaultOf text place fault → script_of text ≡ Err fault
+  pub long : (text : List ℕ) (fault : ScriptFault) → IsTooLong text fault → script_of text ≡ Err fault
+  pub refused : (text : List ℕ) (fault : ScriptFault) → script_of text ≡ Err fault → IsTooLong text fault ⊎ IsFaultOf text (fault.line - 1) fault
