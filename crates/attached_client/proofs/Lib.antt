@@ -6,6 +6,7 @@ pub mod Places
 pub mod Does
 pub mod Damages
 pub mod Sizings
+pub mod Placings
 pub mod Begun
 pub mod Pixels
 pub mod CarriedOut

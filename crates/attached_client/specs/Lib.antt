@@ -6,3 +6,4 @@ pub mod Sending
 pub mod Laws
 pub mod ChangeLaws
 pub mod Drawing
+pub mod Capturing

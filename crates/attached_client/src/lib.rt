@@ -2,6 +2,7 @@
 #![tactic(auto)]
 
 mod acting;
+mod capturing;
 mod carrying;
 mod change;
 mod change_laws;
