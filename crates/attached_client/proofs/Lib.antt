@@ -7,6 +7,7 @@ pub mod Does
 pub mod Damages
 pub mod Sizings
 pub mod Placings
+pub mod DrawnSo
 pub mod Begun
 pub mod Pixels
 pub mod CarriedOut

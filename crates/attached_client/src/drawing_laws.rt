@@ -1,5 +1,6 @@
-// What follows of captures, results and giving back. The law makes the calls of those that it stands on.
+// What follows of captures, results and giving back. Each law makes the calls of those that it stands on.
 ghost use Rattle.attached_client.specs.Drawing.{DrawingKeeps, DrawingMarks, DrawingOwes};
+ghost use Rattle.attached_client.specs.Capturing.{CapturedIsDrawn, FiledIsDrawn};
 
 use client_delivery::{
     attaching_and_drawing_owe_so, each_delivery_changes_owed_so,
@@ -21,4 +22,12 @@ pub fn drawing_keeps_a_client()
     what_a_client_says_keeps_what_is_told();
     attaching_and_drawing_owe_so();
     each_delivery_changes_owed_so();
+}
+
+/// Jobs that a capture made, and a result that was filed, are such drawing.
+pub fn captures_and_results_are_drawn()
+    ensures captured { CapturedIsDrawn }
+    ensures filed { FiledIsDrawn }
+{
+    keyed_finds::<WindowSource<Region>>();
 }

@@ -19,5 +19,5 @@ pub use change_laws::{
     a_change_keeps_the_numbering,
 };
 pub use client::Attached;
-pub use drawing_laws::drawing_keeps_a_client;
+pub use drawing_laws::{captures_and_results_are_drawn, drawing_keeps_a_client};
 pub use laws::{a_new_client_attaches, acting_keeps_what_is_told, messages_mark_and_owe_so};
