@@ -1,5 +1,5 @@
 -- A source in the place of another, by a capture or a result.
-use Rattle.std.proofs.Common.{◌≡◌, ℕ, ◌<◌, Some, None, List, slice_index_or, slice_set, refl, sym, ap, ◌∙◌, subst}
+use Rattle.std.proofs.Common.{◌≡◌, ℕ, ◌<◌, Bool, true, false, Some, None, List, [], ◌∷◌, cond, eqb, slice_index_or, slice_set, refl, sym, ap, ◌∙◌, subst}
 use Rattle.std.specs.Prelude.{Option, length}
 use Rattle.xp_base.specs.Keyed.{HasDistinctKeys, keyed_change}
 use Rattle.xp_base.specs.KeyedLaws.{KeyedPlaces, KeyedKeeps}
@@ -65,3 +65,13 @@ captures_none mode now first window c none = subst (λ (o : Option SourceSeen). 
 
 pub files_none : (k now : ℕ) (c : ClientSeen) (done : FinishedJob) → find_source c.seen.sources k ≡ None → ClientFiles k now c done F.Late c
 files_none k now c done none = subst (λ (o : Option SourceSeen). FilesWhere o k now c done F.Late c) (sym none) (refl, refl)
+
+-- where no source is of the window nothing changes
+pub unchanged : (sources : List SourceSeen) (k : ℕ) (change : SourceSeen → SourceSeen) → find_source sources k ≡ None → keyed_change source_key sources k change ≡ sources
+unchanged [] k change none = refl
+unchanged (s ∷ sources) k change none = go (eqb s.wid k) none (unchanged sources k change)
+  where
+    go : (b : Bool) → cond b (Some s) (find_source sources k) ≡ None → (find_source sources k ≡ None → keyed_change source_key sources k change ≡ sources)
+        → cond b (change s) s ∷ keyed_change source_key sources k change ≡ s ∷ sources
+    go true none later = absurd (cc none)
+    go false none later = ap (λ (l : List SourceSeen). s ∷ l) (later none)

@@ -18,6 +18,7 @@ use Rattle.window_source.specs.Capturing.{AnswersAs, CaptureGives}
 use Rattle.window_source.specs.Drawn.{FileGives}
 use Rattle.client_delivery.specs.Attached.{source_key, find_source}
 use Rattle.client_delivery.specs.Delivered.{IsTold}
+use Rattle.client_delivery.specs.Steps.{GivingBack, quiet, changes_source}
 use Rattle.attached_client.specs.Client.{ClientSeen, weight}
 use Rattle.attached_client.specs.Drawing.{Drawing, Capturing, Filing, ClientDraws}
 
@@ -56,6 +57,10 @@ FilesWhere (Some s) k now c done answer c' = FilesBy k now s c done answer c'
 
 abbrev pub ClientFiles : ℕ → ℕ → ClientSeen → FinishedJob → Filed → ClientSeen → Type 0
 ClientFiles k now c done answer c' = FilesWhere (find_source c.seen.sources k) k now c done answer c'
+
+-- all jobs in hand of window k are given back
+abbrev pub recalled : ℕ → ℕ → ClientSeen → ClientSeen
+recalled k now c = record c { seen = changes_source k (quiet (GivingBack now)) c.seen }
 
 -- jobs that were made are a capture of a window of the desktop, and a result that was filed is one
 abbrev pub CapturedIsDrawn : Type 0

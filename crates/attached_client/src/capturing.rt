@@ -1,14 +1,14 @@
-// Captures of a client's windows, and their results.
-ghost use Rattle.std.specs.Prelude.{◌≤◌};
+// Captures of a client's windows, their results, and jobs that are given back.
+ghost use Rattle.std.specs.Prelude.{◌≡◌, ◌≤◌, OnOk, OnErr};
 ghost use Rattle.xp_base.specs.Clocks.{last_moment};
-ghost use Rattle.attached_client.specs.Capturing.{ClientCaptures, ClientFiles};
+ghost use Rattle.attached_client.specs.Capturing.{ClientCaptures, ClientFiles, recalled};
 
 use crate::client::{Attached, place_of_window};
 use capture_jobs::{Done, Filed};
 use rect_regions::Region;
 use window_model::Win;
 use window_source::{Caught, Mode, WindowSource};
-use xp_base::{JobId, Wid, keyed_keeps, keyed_places};
+use xp_base::{JobId, NoMemory, Wid, keyed_keeps, keyed_places};
 
 impl Attached {
     /// Captures this window of the desktop at this moment, in milliseconds: its jobs are numbered from `first` on. `None`
@@ -45,5 +45,19 @@ impl Attached {
             return Filed::Back(done);
         }
         source.file(done, now, &mut self.out)
+    }
+
+    /// Gives the jobs in hand of this window back, at this moment, in milliseconds: what they relieve is pending.
+    pub fn recall(&mut self, wid: Wid, now: u64) -> Result<(), NoMemory>
+        requires { now ≤ last_moment }
+        ensures ok { OnOk result (self.new.client ≡ recalled wid now self.old.client) }
+        ensures same { OnErr result (self.new.client ≡ self.old.client) }
+    {
+        keyed_places::<WindowSource<Region>>();
+        keyed_keeps::<WindowSource<Region>>();
+        if let Some(place) = place_of_window(&self.sources, wid) {
+            self.sources[place].recall(now)?;
+        }
+        Ok(())
     }
 }
