@@ -30,6 +30,9 @@ pub fn desktop(alloc: Global, wid: Wid, w: u32, h: u32, first: u32) -> Result<De
     if desk.find(wid).is_some() {
         return Err(Fail::from("no window yet"));
     }
+    if w < 1 || w > 4096 || h < 1 || h > 4096 {
+        return Err(Fail::from("a window's size"));
+    }
     desk.add(wid, 0, 0, w, h)?;
     draw(&mut desk, alloc, wid, rect, first)?;
     Ok(desk)
