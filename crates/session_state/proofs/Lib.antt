@@ -5,3 +5,6 @@ pub mod Taking
 pub mod Stepping
 pub mod Sends
 pub mod Receives
+pub mod Preparing
+pub mod Carrying
+pub mod Painted

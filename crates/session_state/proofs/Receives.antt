@@ -1,5 +1,5 @@
 -- A read from a connection that was taken out, as the step of a session.
-use Rattle.std.proofs.Common.{◌≡◌, ℕ, ◌<◌, Bool, true, false, Option, Some, None, List, [], set, length, refl, sym, ap, ◌∙◌, subst, arith}
+use Rattle.std.proofs.Common.{◌≡◌, ℕ, Bool, true, false, Option, Some, None, List, [], set, refl, sym, ap, ◌∙◌, subst}
 use Rattle.xp_base.specs.declared.numbers.Conn.{Conn}
 use Rattle.link_bay.specs.Connections.{ConnectionRecord, OthersStay, AllStay}
 use Rattle.link_bay.specs.Answers.{ReadGives}

@@ -1,5 +1,5 @@
 -- A session seen after a part of it changed.
-use Rattle.std.proofs.Common.{◌≡◌, ◌≢◌, ℕ, ◌<◌, ◌≤◌, Bool, true, List, [], ◌∷◌, ◌++◌, set, refl, sym, ap, ◌∙◌, subst, arith}
+use Rattle.std.proofs.Common.{◌≡◌, ◌≢◌, ℕ, ◌<◌, ◌≤◌, true, [], ◌∷◌, ◌++◌, refl, sym, ap, ◌∙◌, subst, arith}
 use Rattle.xp_base.specs.declared.numbers.Conn.{Conn}
 use Rattle.link_bay.specs.Connections.{ConnectionRecord, OthersStay}
 use Rattle.link_bay.specs.Answers.{AcceptGives}
@@ -12,12 +12,11 @@ use Rattle.open_connection.specs.declared.heard.Heard.{Heard}
 use Rattle.open_connection.specs.declared.heard.Heard.TheVariants as H
 use Rattle.session_steps.specs.declared.answers.Accepted.TheVariants as A
 use Rattle.session_steps.specs.declared.answers.Received.TheVariants as R
-use Rattle.session_steps.specs.declared.answers.Sent.{Sent}
 use Rattle.session_steps.specs.Seen.{Known, Seen}
 use Rattle.session_steps.specs.Slots.{Slots}
 use Rattle.session_steps.specs.Accepting.{Accepts}
 use Rattle.session_steps.specs.Reading.{puts, with_ignored, Finishes}
-use Rattle.session_steps.specs.Sending.{slot_after, sent_of, OutGives}
+use Rattle.session_steps.specs.Sending.{slot_after}
 
 -- what a connection is after a write
 pub not_failed : (after : ConnectionSeen) (out : Out) → out ≢ O.Failed → slot_after after out ≡ Open after

@@ -1,5 +1,5 @@
 -- A write to a connection that was taken out, as the step of a session.
-use Rattle.std.proofs.Common.{◌≡◌, ℕ, ◌<◌, Option, Some, None, List, set, length, refl, sym, ap, ◌∙◌, subst, arith}
+use Rattle.std.proofs.Common.{◌≡◌, ℕ, ◌<◌, Option, Some, List, set, length, sym, ap, ◌∙◌, subst, arith}
 use Rattle.std.specs.Option.{option_map}
 use Rattle.xp_base.specs.declared.numbers.Conn.{Conn}
 use Rattle.link_bay.specs.Connections.{ConnectionRecord, OthersStay, AllStay}

@@ -1,5 +1,5 @@
--- Lists in which an item is set twice, or among the first ones that change.
-use Rattle.std.proofs.Common.{◌≡◌, ℕ, zero, suc, ◌<◌, Option, Some, None, List, [], ◌∷◌, set, length, refl, sym, ap, ◌∙◌, arith}
+-- Lists in which an item is set twice, is among the first ones that change, or comes behind all others.
+use Rattle.std.proofs.Common.{◌≡◌, ◌≢◌, ℕ, zero, suc, ◌<◌, Some, List, [], ◌∷◌, ◌++◌, set, length, refl, sym, ap, arith}
 use Rattle.std.specs.Prelude.{slice_get}
 use Rattle.session_steps.specs.Slots.{change_first}
 
@@ -34,3 +34,17 @@ pub first_there : {A : Type 0} (change : A → A) (n : ℕ) (xs : List A) → sl
 first_there change zero xs = refl
 first_there change (suc n) [] = refl
 first_there change (suc n) (x ∷ xs) = first_there change n xs
+
+pub append_last : {A : Type 0} (xs : List A) (x : A) → slice_get (xs ++ x ∷ []) (length xs) ≡ Some x
+append_last [] x = refl
+append_last (y ∷ xs) x = append_last xs x
+
+pub append_other : {A : Type 0} (xs : List A) (x : A) (j : ℕ) → j ≢ length xs → slice_get (xs ++ x ∷ []) j ≡ slice_get xs j
+append_other [] x zero apart = absurd (apart refl)
+append_other [] x (suc j) apart = refl
+append_other (y ∷ xs) x zero apart = refl
+append_other (y ∷ xs) x (suc j) apart = append_other xs x j (λ same. apart (ap suc same))
+
+pub append_long : {A : Type 0} (xs : List A) (x : A) → length (xs ++ x ∷ []) ≡ suc (length xs)
+append_long [] x = refl
+append_long (y ∷ xs) x = ap suc (append_long xs x)

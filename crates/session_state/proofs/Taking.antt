@@ -2,13 +2,12 @@
 use Rattle.std.proofs.Common.{◌≡◌, ℕ, Bool, true, false, Option, Some, None, List, refl, sym, ap, ◌∙◌, subst, cond}
 use Rattle.std.specs.Prelude.{slice_get}
 use Rattle.std.specs.Option.{option_map}
-use Rattle.std.proofs.lemmas.Bool.{cond-true, cond-false}
 use Rattle.xp_base.specs.declared.numbers.Conn.{Conn}
 use Rattle.connection_table.specs.Tables.{Slot, Open, Away, Ended, opened, open_at}
 use Rattle.connection_ends.specs.declared.end.End.{End}
 use Rattle.connection_ends.specs.declared.end.End.TheVariants as E
 use Rattle.open_connection.specs.Connection.{OpenSeen, ConnectionSeen, connection_in}
-use Rattle.session_steps.specs.Slots.{is_named, taken_over}
+use Rattle.session_steps.specs.Slots.{taken_over}
 use Rattle.session_state.specs.Views.{slot_in, slots_in, is_named_in}
 use Rattle.session_state.proofs.Viewed.{view_at}
 

@@ -1,5 +1,5 @@
 -- What a step asks of the state that it finds, which every session keeps, and how a read answers an end.
-use Rattle.std.specs.Prelude.{ℕ, ◌≡◌, ◌≤◌, length}
+use Rattle.std.specs.Prelude.{◌≡◌, ◌≤◌, length}
 use Rattle.xp_base.specs.Clocks.{last_moment}
 use Rattle.connection_ends.specs.declared.end.End.{End}
 use Rattle.connection_ends.specs.declared.end.End.TheVariants as E

@@ -2,6 +2,8 @@
 #![tactic(auto)]
 
 mod accept;
+mod paint;
+mod prepare;
 mod receive;
 mod send;
 mod state;

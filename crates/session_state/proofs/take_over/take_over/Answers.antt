@@ -1,9 +1,5 @@
-use Rattle.std.proofs.Common.{rules, ◌≡◌, ◌≢◌, ◌<◌, ◌≤◌, ◌+◌, ℕ, Bool, true, false, Some, List, [], ◌∷◌, ◌++◌, set, length, refl, sym, ap, ◌∙◌, subst, arith}
-use Rattle.std.specs.Prelude.{slice_get}
-use Rattle.connection_table.specs.Tables.{Slot}
-use Rattle.connection_ends.specs.declared.end.End.{End}
-use Rattle.open_connection.specs.Connection.{ConnectionSeen}
-use Rattle.session_steps.specs.Slots.{Slots, taken_over, change_first}
+use Rattle.std.proofs.Common.{◌+◌, length, sym, ap, ◌∙◌, arith}
+use Rattle.session_steps.specs.Slots.{Slots, taken_over}
 use Rattle.session_state.specs.Views.{slots_in}
 use Rattle.session_state.proofs.Viewed.{view_long}
 use Rattle.session_state.proofs.Stepping.{one_more, first_long}

@@ -1,10 +1,9 @@
-use Rattle.std.proofs.Common.{rules, ◌≡◌, ◌≢◌, ◌<◌, ◌≤◌, ◌+◌, ℕ, Bool, true, false, Some, List, [], ◌∷◌, ◌++◌, set, length, refl, sym, ap, ◌∙◌, subst, arith}
+use Rattle.std.proofs.Common.{List, set, sym, ap, ◌∙◌}
 use Rattle.std.specs.Prelude.{slice_get}
 use Rattle.connection_table.specs.Tables.{Slot, Away, Ended}
 use Rattle.connection_ends.specs.declared.end.End.{End}
 use Rattle.connection_ends.specs.declared.end.End.TheVariants as E
 use Rattle.open_connection.specs.Connection.{OpenSeen, ConnectionSeen}
-use Rattle.session_steps.specs.Slots.{Slots, taken_over}
 use Rattle.session_state.specs.Views.{slots_in, is_named_in}
 use Rattle.session_state.proofs.Sets.{set_twice, set_same, set_there}
 use Rattle.session_state.proofs.Viewed.{view_set}

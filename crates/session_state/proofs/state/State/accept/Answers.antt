@@ -1,5 +1,5 @@
-use Rattle.std.proofs.Common.{rules, ◌≡◌, ◌≢◌, ◌<◌, ◌≤◌, ℕ, Bool, true, false, List, [], ◌∷◌, ◌++◌, set, refl, sym, ap, ◌∙◌, subst, arith}
-use Rattle.connection_table.specs.Tables.{Open, open_count}
+use Rattle.std.proofs.Common.{[], ◌∷◌, ◌++◌, ap, ◌∙◌, arith}
+use Rattle.connection_table.specs.Tables.{Open}
 use Rattle.open_connection.specs.Connection.{connection_in}
 use Rattle.session_state.specs.Views.{known, slots_in}
 use Rattle.session_state.proofs.Viewed.{view_push, view_count}

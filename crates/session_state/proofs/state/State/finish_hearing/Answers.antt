@@ -1,4 +1,4 @@
-use Rattle.std.proofs.Common.{rules, ◌≡◌, ◌≢◌, ◌<◌, ◌≤◌, ℕ, Bool, true, false, List, [], ◌∷◌, ◌++◌, set, refl, sym, ap, ◌∙◌, subst, arith}
+use Rattle.std.proofs.Common.{set, ap, ◌∙◌}
 use Rattle.connection_table.specs.Tables.{Open}
 use Rattle.open_connection.specs.Connection.{connection_in}
 use Rattle.session_steps.specs.Seen.{Seen}

@@ -1,5 +1,4 @@
-use Rattle.std.proofs.Common.{rules, ◌≡◌, ◌≢◌, ◌<◌, ◌≤◌, ◌+◌, ℕ, Bool, true, false, Some, List, [], ◌∷◌, ◌++◌, set, length, refl, sym, ap, ◌∙◌, subst, arith}
-use Rattle.client_outbox.specs.declared.out.Out.TheVariants as O
+use Rattle.std.proofs.Common.{set, sym, ap, ◌∙◌}
 use Rattle.connection_table.specs.Tables.{Slot, Open, Ended}
 use Rattle.connection_ends.specs.declared.end.End.{End}
 use Rattle.connection_ends.specs.declared.end.End.TheVariants as E

@@ -1,10 +1,9 @@
-use Rattle.std.proofs.Common.{rules, ◌≡◌, ◌≢◌, ◌<◌, ◌≤◌, ◌+◌, ℕ, Bool, true, false, Some, List, [], ◌∷◌, ◌++◌, set, length, refl, sym, ap, ◌∙◌, subst, arith}
+use Rattle.std.proofs.Common.{◌<◌, ℕ, List, [], refl, sym, ap, ◌∙◌, subst}
 use Rattle.connection_table.specs.Tables.{Open, Away}
 use Rattle.link_bay.specs.Answers.{ReadGives}
 use Rattle.link_bay.specs.declared.bay.Gave.TheVariants as G
 use Rattle.open_connection.specs.Connection.{connection_in}
 use Rattle.session_state.specs.Views.{known, slots_in}
-use Rattle.session_state.proofs.Sets.{set_there}
 use Rattle.session_state.proofs.Viewed.{view_set, view_away, taken_there}
 use Rattle.session_state.proofs.Sends.{low_known, seen_open}
 use Rattle.session_state.proofs.Receives.{bytes_so, again_so, end_so, failed_so, short_so}

@@ -1,4 +1,4 @@
-use Rattle.std.proofs.Common.{rules, ◌≡◌, ◌≢◌, ◌<◌, ◌≤◌, ◌+◌, ℕ, Bool, true, false, Some, List, [], ◌∷◌, ◌++◌, set, length, refl, sym, ap, ◌∙◌, subst, arith}
+use Rattle.std.proofs.Common.{◌<◌, refl, sym, ap, ◌∙◌, subst}
 use Rattle.connection_table.specs.Tables.{Away}
 use Rattle.open_connection.specs.Connection.{connection_in}
 use Rattle.session_state.specs.Views.{known, slots_in}
