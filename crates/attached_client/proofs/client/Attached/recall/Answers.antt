@@ -11,7 +11,7 @@ use Rattle.attached_client.proofs.client.Attached.recall.Goals as goal
 pub returns-in_ok-recall-clause-ok : goal.returns-in_ok-recall-clause-ok
 returns-in_ok-recall-clause-ok c =
     let put = put_at c.keyed_places.ensures c.keyed_keeps.ensures c.self.inside.sources.items c.args.wid c.in-Some.place (quiet (GivingBack c.args.now)) c.index_mut.result.now c.recall.new.self
-        c.self.invariant (sym (rw c.deref.ensures.value at c.in-Some.ensures.place)) c.index_mut.ensures.value c.in_ok-recall.ensures.ok in
+    c.self.invariant (sym (rw c.deref.ensures.value at c.in-Some.ensures.place)) c.index_mut.ensures.value c.in_ok-recall.ensures.ok in
     ap (λ (sources : List SourceSeen). client_of c.self.inside.conn.0 c.self.inside.caps sources c.self.inside.out.waiting) put
     ∙ ap (λ (a : Attachment). recalled c.args.wid c.args.now a.client) c.self.view_is
 
