@@ -6,4 +6,5 @@ pub mod Sending
 pub mod Laws
 pub mod ChangeLaws
 pub mod Drawing
+pub mod Clear
 pub mod Capturing

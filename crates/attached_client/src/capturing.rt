@@ -2,6 +2,7 @@
 ghost use Rattle.std.specs.Prelude.{◌≡◌, ◌≤◌, OnOk, OnErr};
 ghost use Rattle.xp_base.specs.Clocks.{last_moment};
 ghost use Rattle.attached_client.specs.Capturing.{ClientCaptures, ClientFiles, recalled};
+ghost use Rattle.attached_client.specs.Clear.{is_clear_client};
 
 use crate::client::{Attached, place_of_window};
 use capture_jobs::{Done, Filed};
@@ -59,5 +60,11 @@ impl Attached {
             self.sources[place].recall(now)?;
         }
         Ok(())
+    }
+    /// Whether nothing is left to be drawn of any of its windows. Draws may wait still.
+    pub fn is_clear(&self) -> bool
+        ensures { result ≡ is_clear_client self.now.client }
+    {
+        self.sources.iter().all(|source| source.is_clear())
     }
 }

@@ -4,3 +4,4 @@ pub mod Sending
 pub mod Greeting
 pub mod Changing
 pub mod Rest
+pub mod Clear

@@ -11,6 +11,7 @@ use Rattle.client_delivery.specs.Delivered.{layout}
 use Rattle.client_delivery.specs.Owed.{owes, shows, Differs}
 use Rattle.connection_ends.specs.Causes.{TellsThat, IsSettled, HasSaidNothing}
 use Rattle.attached_client.specs.Client.{ClientSeen}
+use Rattle.attached_client.specs.Clear.{is_clear_client}
 use Rattle.open_connection.specs.Connection.{ConnectionSeen}
 use Rattle.connection_steps.specs.Kept.{IsConnection}
 
@@ -38,3 +39,7 @@ RestSettles = (tells : Bool) (desk : List Window) (were_opened : ℕ → Bool) (
 abbrev pub GreetingSaysNothing : Type 0
 GreetingSaysNothing = (tells : Bool) (desk : List Window) (were_opened : ℕ → Bool) (k : ℕ) (r : ConnectionRecord) (c : ConnectionSeen) → c.client ≡ None
     → IsConnection tells desk were_opened k r c → TellsThat r.given HasSaidNothing
+
+-- once nothing is left to be drawn and nothing waits to be written, a client is at rest
+abbrev pub ClearRests : Type 0
+ClearRests = (client : ClientSeen) → is_clear_client client ≡ true → client.seen.out.packets ≡ [] → IsAtRest client.seen

@@ -3,3 +3,4 @@ pub mod Reading
 pub mod Changing
 pub mod Sending
 pub mod Laws
+pub mod Clear

@@ -7,6 +7,7 @@ ghost use Rattle.open_connection.specs.Connection.{fresh, connection_in, caps_in
 ghost use Rattle.open_connection.specs.Reading.{HearsPiece};
 ghost use Rattle.open_connection.specs.Changing.{FitsIn, IsPreparedIn, ConnectionChanges};
 ghost use Rattle.open_connection.specs.Sending.{SendsOn};
+ghost use Rattle.open_connection.specs.Clear.{is_clear_connection};
 
 use crate::client::{carry_out, preparing, send};
 use crate::heard::Heard;
@@ -108,5 +109,14 @@ impl Connection {
         ensures provider { B.provider bay.new ≡ B.provider bay.old }
     {
         send(&mut self.client, bay, c, max)
+    }
+    /// Whether its hello was accepted and nothing is left to be drawn of any window of its client. Draws may wait still.
+    pub fn is_clear(&self) -> bool
+        ensures { result ≡ is_clear_connection (connection_in self.now) }
+    {
+        match &self.client {
+            Some(client) => client.is_clear(),
+            None => false,
+        }
     }
 }

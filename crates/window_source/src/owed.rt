@@ -1,11 +1,14 @@
 // What a source owes.
 ghost use Rattle.std.specs.Prelude.{◌≡◌, true};
 ghost use Rattle.xp_base.specs.Points.{is_within};
-ghost use Rattle.window_source.specs.Owed.{owes, owed_count};
+ghost use Rattle.rect_regions.specs.BitRows.{AllWithin};
+ghost use Rattle.delivery_model.specs.Grids.{points as points_where};
+ghost use Rattle.delivery_model.specs.Events.{is_empty};
+ghost use Rattle.window_source.specs.Owed.{owes, owed_count, is_clear};
 
 use crate::source::WindowSource;
 use client_outbox::Outbox;
-use delivery_model::points_are_their_tests;
+use delivery_model::{empty_sets_have_no_point, points_are_their_tests};
 use rect_regions::Points;
 use resize_cancel::jobs_relieve_as_the_models;
 
@@ -43,4 +46,26 @@ impl<R: Points> WindowSource<R> {
         }
         count
     }
+    /// Whether nothing is left to be drawn of the window: the client does not show it, or no job is in hand, and no point is
+    /// pending or lossy. Draws of it may wait still.
+    pub fn is_clear(&self) -> bool
+        ensures { result ≡ is_clear self.now }
+    {
+        if !self.mapped {
+            return true;
+        }
+        self.jobs.is_empty()
+            && has_none(self.batch.pending(), self.w, self.h)
+            && has_none(self.lossy.wanted(), self.w, self.h)
+    }
+}
+
+/// Whether there are no points. All lie in a window of this size.
+fn has_none<R: Points>(points: &R, w: u32, h: u32) -> bool
+    requires { AllWithin w h (R.has points.now) }
+    ensures { result ≡ is_empty (points_where w h (R.has points.now)) }
+{
+    let _size = (w, h);
+    empty_sets_have_no_point();
+    points.bounds().is_none()
 }

@@ -1,3 +1,4 @@
+use Rattle.connection_steps.proofs.Clear.{clear_rests}
 use Rattle.connection_steps.proofs.Rest.{rest_shows, rest_settles, greeting_says_nothing}
 use Rattle.connection_steps.proofs.resting.a_client_at_rest_shows_the_desktop.Goals as goal
 
@@ -9,3 +10,6 @@ returns-clause-settles c = rest_settles c.what_waits_lays_out_the_desktop.ensure
 
 pub returns-clause-greeting : goal.returns-clause-greeting
 returns-clause-greeting c = greeting_says_nothing
+
+pub returns-clause-clear : goal.returns-clause-clear
+returns-clause-clear c = clear_rests
