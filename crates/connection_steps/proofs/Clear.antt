@@ -29,7 +29,7 @@ unmarked (false ∷ marks) zero none = refl
 unmarked (false ∷ marks) (suc n) none = unmarked marks n none
 
 no_point : (set : Points) (x y : ℕ) → is_empty set ≡ true → has set x y ≡ false
-unfolding is_empty, has
+unfolding is_empty has
 no_point set x y empty = rw (unmarked set.marks (place_of set.wide x y) (not_not (list_any (λ m. m) set.marks) empty)) (and_no (is_within set.wide set.high x y))
   where
     not_not : (b : Bool) → not b ≡ true → b ≡ false

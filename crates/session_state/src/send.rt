@@ -5,6 +5,7 @@ ghost use Rattle.connection_table.specs.Tables.{Away};
 ghost use Rattle.open_connection.specs.Connection.{connection_in};
 ghost use Rattle.session_steps.specs.Sending.{Sends, sent_of, slot_after};
 ghost use Rattle.session_steps.specs.Reading.{puts};
+ghost use Rattle.session_steps.specs.Drawing.{is_clear_at};
 ghost use Rattle.session_state.specs.Views.{known};
 ghost use Rattle.session_state.specs.Ready.{IsReady};
 
@@ -30,6 +31,17 @@ impl<B: Bay + Drop> State<B> {
         let out = connection.send(&mut self.bay, c, max);
         self.keep_or_close(c, connection, out);
         answer_to(out)
+    }
+
+    /// Whether the connection is open, its client is attached, and nothing is left to be drawn of any of its windows. Draws
+    /// may wait still.
+    pub fn is_clear(&self, c: Conn) -> bool
+        ensures { result ≡ is_clear_at c.0 self.now }
+    {
+        match self.table.get(c.0 as usize) {
+            Some(connection) => connection.is_clear(),
+            None => false,
+        }
     }
 
     /// Puts the connection that was taken out back, or ends it where its write failed.

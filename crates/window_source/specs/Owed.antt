@@ -2,7 +2,7 @@
 use Rattle.std.specs.Prelude.{ℕ, ◌==◌, Bool, not, ◌&&◌, ◌||◌, List, length}
 use Rattle.std.specs.List.{count_by}
 use Rattle.xp_base.specs.Points.{is_within}
-use Rattle.delivery_model.specs.Grids.{has as has_mark, each_point}
+use Rattle.delivery_model.specs.Grids.{points, has as has_mark, each_point}
 use Rattle.delivery_model.specs.Events.{is_empty, jobs_relieve}
 use Rattle.client_outbox.specs.Outgoing.{WaitingPacket}
 use Rattle.client_outbox.specs.Reliefs.{relieve}
@@ -18,4 +18,4 @@ owed_count has s packets = count_by (λ b. b) (each_point s.wide s.high (owes ha
 
 -- nothing is left to be drawn: the client does not show the window, or no job is in hand, and no point is pending or lossy
 abbrev pub is_clear : SourceSeen → Bool
-is_clear s = not s.mapped || (length s.jobs == 0 && (is_empty s.pending && is_empty s.lossy))
+is_clear s = not s.mapped || (length s.jobs == 0 && (is_empty s.pending && is_empty (points s.wide s.high (has_mark s.lossy))))

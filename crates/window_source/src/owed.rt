@@ -54,6 +54,7 @@ impl<R: Points> WindowSource<R> {
         if !self.mapped {
             return true;
         }
+        points_are_their_tests();
         self.jobs.is_empty()
             && has_none(self.batch.pending(), self.w, self.h)
             && has_none(self.lossy.wanted(), self.w, self.h)
