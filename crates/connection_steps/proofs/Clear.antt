@@ -1,12 +1,14 @@
 -- Once nothing is left to be drawn and nothing waits, a client is at rest.
-use Rattle.std.proofs.Common.{◌≡◌, ℕ, zero, suc, Bool, true, false, ◌&&◌, ◌||◌, Some, None, List, [], ◌∷◌, refl, sym, ap, ◌∙◌, subst}
+use Rattle.std.proofs.Common.{◌≡◌, ℕ, zero, suc, Bool, true, false, ◌&&◌, ◌||◌, Some, None, List, [], ◌∷◌, refl, sym, ap, ◌∙◌, subst, arith}
 use Rattle.std.specs.Prelude.{Option, not, ◌==◌, length, slice_index_or, if◌then◌else◌}
-use Rattle.std.specs.List.{list_any, list_all, find}
+use Rattle.std.specs.List.{list_any, list_all}
+use Rattle.std.proofs.lemmas.Bool.{eqb-true}
 use Rattle.xp_base.specs.Points.{is_within}
 use Rattle.xp_base.specs.Grid.{place_of}
-use Rattle.delivery_model.specs.Grids.{Points, has}
+use Rattle.delivery_model.specs.Grids.{Points, points, has}
 use Rattle.delivery_model.specs.Window.{Job}
 use Rattle.delivery_model.specs.Events.{is_empty, jobs_relieve}
+use Rattle.delivery_model.specs.Laws.{EmptyHasNone}
 use Rattle.window_source.specs.Source.{SourceSeen}
 use Rattle.window_source.specs.Waiting.{Queued}
 use Rattle.window_source.specs.Owed.{is_clear}
@@ -44,34 +46,38 @@ no_point set x y empty = rw (unmarked set.marks (place_of set.wide x y) (not_not
 
 no_job : (jobs : List Job) (x y : ℕ) → (length jobs == 0) ≡ true → jobs_relieve jobs x y ≡ false
 no_job [] x y none = refl
-no_job (j ∷ jobs) x y none = absurd (cc none)
+no_job (j ∷ jobs) x y none = let long : length (j ∷ jobs) ≡ 0 = eqb-true (length (j ∷ jobs)) 0 none in absurd (omega (arith, long))
 
-pub clear_source : (s : SourceSeen) (packets : List Queued) (x y : ℕ) → is_clear s ≡ true → s.mapped ≡ true → packets ≡ [] → source_owes s packets x y ≡ false
-clear_source s packets x y clear mapped none =
-    let parts : ((length s.jobs == 0) && (is_empty s.pending && is_empty s.lossy)) ≡ true = rw mapped at clear in
-    let jobs = both (length s.jobs == 0) (is_empty s.pending && is_empty s.lossy) parts in
-    let sets = both (is_empty s.pending) (is_empty s.lossy) jobs.1 in
-    rw (none, no_point s.pending x y sets.0, no_job s.jobs x y jobs.0, no_point s.lossy x y sets.1) (and_none (is_within s.wide s.high x y))
+owes_none : (s : SourceSeen) (x y : ℕ) → has s.pending x y ≡ false → jobs_relieve s.jobs x y ≡ false → (is_within s.wide s.high x y ≡ true → has s.lossy x y ≡ false)
+    → (is_within s.wide s.high x y && ((has s.pending x y || jobs_relieve s.jobs x y) || (false || has s.lossy x y))) ≡ false
+owes_none s x y pending jobs lossy = go (is_within s.wide s.high x y) refl
   where
-    and_none : (b : Bool) → (b && false) ≡ false
-    and_none true = refl
-    and_none false = refl
+    go : (b : Bool) → is_within s.wide s.high x y ≡ b → (b && ((has s.pending x y || jobs_relieve s.jobs x y) || (false || has s.lossy x y))) ≡ false
+    go false inside = refl
+    go true inside = rw (pending, jobs, lossy inside) refl
+
+pub clear_source : EmptyHasNone → (s : SourceSeen) (packets : List Queued) (x y : ℕ) → is_clear s ≡ true → s.mapped ≡ true → packets ≡ [] → source_owes s packets x y ≡ false
+clear_source empty s packets x y clear mapped none =
+    let parts : (length s.jobs == 0 && (is_empty s.pending && is_empty (points s.wide s.high (has s.lossy)))) ≡ true = rw mapped at clear in
+    let jobs = both (length s.jobs == 0) (is_empty s.pending && is_empty (points s.wide s.high (has s.lossy))) parts in
+    let sets = both (is_empty s.pending) (is_empty (points s.wide s.high (has s.lossy))) jobs.1 in
+    rw none (owes_none s x y (no_point s.pending x y sets.0) (no_job s.jobs x y jobs.0) (empty s.wide s.high (has s.lossy) sets.1 x y))
 
 -- ---- a client
 
 found_clear : (sources : List SourceSeen) (k : ℕ) (s : SourceSeen) → list_all is_clear sources ≡ true → find_source sources k ≡ Some s → is_clear s ≡ true
 found_clear [] k s clear found = absurd (cc found)
-found_clear (t ∷ sources) k s clear found = go (source_key t == k) found
+found_clear (t ∷ sources) k s clear found =
+    let parts : (is_clear t ≡ true) × (list_all is_clear sources ≡ true) = both (is_clear t) (list_all is_clear sources) clear in
+    here_or_there sources k t s (source_key t == k) parts.0 (found_clear sources k s parts.1) found
   where
-    parts : (is_clear t ≡ true) × (list_all is_clear sources ≡ true)
-    parts = both (is_clear t) (list_all is_clear sources) clear
+    here_or_there : (sources : List SourceSeen) (k : ℕ) (t s : SourceSeen) (b : Bool) → is_clear t ≡ true → (find_source sources k ≡ Some s → is_clear s ≡ true)
+        → (if b then Some t else find_source sources k) ≡ Some s → is_clear s ≡ true
+    here_or_there sources k t s true here there found = let same : t ≡ s = cc found in subst (λ (u : SourceSeen). is_clear u ≡ true) same here
+    here_or_there sources k t s false here there found = there found
 
-    go : (b : Bool) → (if b then Some t else find_source sources k) ≡ Some s → is_clear s ≡ true
-    go true found = subst (λ (u : SourceSeen). is_clear u ≡ true) (cc found) parts.0
-    go false found = found_clear sources k s parts.1 found
-
-pub clear_rests : ClearRests
-clear_rests client clear none = record {
+pub clear_rests : EmptyHasNone → ClearRests
+clear_rests empty client clear none = record {
   written = none;
-  clear = λ wid x y s found mapped. ap (λ o. owes_in o client.seen.out.packets x y) found ∙ clear_source s client.seen.out.packets x y (found_clear client.seen.sources wid s clear found) mapped none;
+  clear = λ wid x y s found mapped. ap (λ o. owes_in o client.seen.out.packets x y) found ∙ clear_source empty s client.seen.out.packets x y (found_clear client.seen.sources wid s clear found) mapped none;
 }

@@ -12,4 +12,4 @@ pub returns-clause-greeting : goal.returns-clause-greeting
 returns-clause-greeting c = greeting_says_nothing
 
 pub returns-clause-clear : goal.returns-clause-clear
-returns-clause-clear c = clear_rests
+returns-clause-clear c = clear_rests c.empty_sets_have_no_point.ensures.empty
