@@ -9,6 +9,7 @@ pub mod TimeSteps
 pub mod Reading
 pub mod Turns
 pub mod Distances
+pub mod DrawnOut
 pub mod Situations
 pub mod Telling
 pub mod Examples
