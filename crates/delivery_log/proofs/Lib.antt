@@ -15,3 +15,4 @@ pub mod Telling
 pub mod Examples
 pub mod Neighbours
 pub mod NeighboursOfRest
+pub mod NeighboursOfDrawnOut

@@ -76,9 +76,9 @@ pub fn rest_is_the_least_of_its_table()
 {}
 
 /// A window with no job in hand that is captured is drawn out once the results of its jobs are filed in their
-/// order: no job is in hand, nothing is pending, and after a refresh nothing is lossy. Each of these filings is
-/// accepted and leaves the jobs behind in hand. Every event keeps what this needs of a window: that its lossy
-/// points are a set of its points.
+/// order: no job is in hand, nothing is pending, and after a refresh nothing is lossy. The first job's result is
+/// filed; the jobs behind it stay in hand where the next one has no result yet. Every event keeps what this needs
+/// of a window: that its lossy points are a set of its points.
 pub fn results_in_order_draw_a_window_out()
     ensures drawn { OrderedResultsDrawOut }
     ensures rest { FrontResultsLeaveTheRest }
