@@ -11,7 +11,7 @@ use Rattle.delivery_model.specs.Plans.{IsPlan}
 use Rattle.delivery_model.specs.Point.{point_at, PointKept}
 use Rattle.delivery_model.specs.Kept.{IsKept}
 use Rattle.delivery_model.specs.Laws.{KeptWhereThere}
-use Rattle.delivery_model.proofs.Grids.{has-inside, has-empty}
+use Rattle.delivery_model.proofs.Grids.{has-empty}
 use Rattle.delivery_model.proofs.Runs.{kept_run}
 use Rattle.delivery_log.specs.Rest.{is_none, file_all}
 use Rattle.delivery_log.specs.DrawnOut.{results_of, IsLossyPointwise, IsDrawnOut}
