@@ -36,7 +36,7 @@ rest_stays now (j ∷ jobs) w waits = cond-false j.encoded (queue_ready now jobs
 
 pub front_leaves_rest : (now : ℕ) (j : Job) (jobs : List Job) (w : Window) → w.jobs ≡ j ∷ jobs → FrontWaits jobs
     → (filing_of (capture_of w.jobs j.number) j.capture ≡ Filed) × (filed j.number j.capture now w ≡ queued now j (record w { jobs = jobs }))
-front_leaves_rest now j jobs w is waits = (files, ap (λ (f : Filing). filed_as f j.number now w) files ∙ (ap (λ (js : List Job). queue_ready now js w) marked ∙ rest_stays now jobs (queued now j w) waits))
+front_leaves_rest now j jobs w is waits = (files, ap (λ (f : Filing). filed_as f j.number now w) files ∙ (leaves ∙ rest_stays now jobs (queued now j w) waits))
   where
     same : nat_eq j.number j.number ≡ true
     same = eq-eqb j.number j.number refl
@@ -47,12 +47,16 @@ front_leaves_rest now j jobs w is waits = (files, ap (λ (f : Filing). filed_as 
     marked : with_result w.jobs j.number ≡ record j { encoded = true } ∷ jobs
     marked = rw (is, same) refl
 
+    leaves : filed_as Filed j.number now w ≡ queue_ready now jobs (queued now j w)
+    leaves = ap (λ (js : List Job). queue_ready now js w) marked
+
 -- so one after another, until none is left
 made_wait : (desk : Grid) (region : Points) (k : ℕ) (plan : List Planned) → FrontWaits (jobs_of desk region k plan)
 made_wait desk region k [] = tt
 made_wait desk region k (p ∷ plan) = refl
 
-results_empty_made : (now : ℕ) (desk : Grid) (region : Points) (k : ℕ) (plan : List Planned) (w : Window) → w.jobs ≡ jobs_of desk region k plan → (file_all now (results_of (jobs_of desk region k plan)) w).jobs ≡ []
+results_empty_made : (now : ℕ) (desk : Grid) (region : Points) (k : ℕ) (plan : List Planned) (w : Window) → w.jobs ≡ jobs_of desk region k plan
+    → (file_all now (results_of (jobs_of desk region k plan)) w).jobs ≡ []
 results_empty_made now desk region k [] w is = is
 results_empty_made now desk region k (p ∷ plan) w is =
     ap (λ (v : Window). (file_all now (results_of behind) v).jobs) (front_leaves_rest now (job_of desk region k p) behind w is (made_wait desk region (k + 1) plan)).1
@@ -132,16 +136,20 @@ uncovered_none w none covers pointwise = ap is_empty pointwise ∙ none-is_empty
     unlossy : (x y : ℕ) → is_within w.desk.wide w.desk.high x y ≡ true → has w.lossy x y ≡ false
     unlossy x y within = false_from_ne_true (has w.lossy x y) (λ lossy. false≢true (sym (ap (λ (js : List Job). list_any (λ (j : Job). is_in j.capture.rect x y) js) none) ∙ covers.covered x y within lossy))
 
-pub ordered_results_draw_out : (plan : List Planned) (first now : ℕ) (w : Window) → w.jobs ≡ [] → IsPlan w plan → IsDrawnOut w (file_all now (results_of (jobs_of w.desk (region_taken w) first plan)) (captured plan first w))
+pub ordered_results_draw_out : (plan : List Planned) (first now : ℕ) (w : Window) → w.jobs ≡ [] → IsPlan w plan
+    → IsDrawnOut w (file_all now (results_of (jobs_of w.desk (region_taken w) first plan)) (captured plan first w))
 ordered_results_draw_out plan first now w none planned = record {
   drawn = drawn;
-  taken = ap is_empty (file_all_stays now results (captured plan first w)).pending ∙ pending_captured plan first w;
-  exact = λ pointwise empty. uncovered_none (file_all now results (captured plan first w)) drawn (covered_files now results (captured plan first w) (covered_refresh plan first w none empty planned))
-      (files_pointwise now results (captured plan first w) pointwise);
+  taken = ap is_empty (file_all_stays now results taken).pending ∙ pending_captured plan first w;
+  exact = λ pointwise empty. uncovered_none (file_all now results taken) drawn (covered_files now results taken (covered_refresh plan first w none empty planned))
+      (files_pointwise now results taken pointwise);
 }
   where
     results : List Result
     results = results_of (jobs_of w.desk (region_taken w) first plan)
 
-    drawn : (file_all now results (captured plan first w)).jobs ≡ []
-    drawn = results_empty_made now w.desk (region_taken w) first plan (captured plan first w) (ap (λ (js : List Job). js ++ jobs_of w.desk (region_taken w) first plan) none)
+    taken : Window
+    taken = captured plan first w
+
+    drawn : (file_all now results taken).jobs ≡ []
+    drawn = results_empty_made now w.desk (region_taken w) first plan taken (ap (λ (js : List Job). js ++ jobs_of w.desk (region_taken w) first plan) none)

@@ -37,12 +37,15 @@ pending_pointwise : IsLossyPointwise (end_of pends)
 unfolding each_point has number number_in is_empty
 pending_pointwise = refl
 
-still_lossy : is_empty (file_all 500 (results_of (jobs_of (end_of pends).desk (region_taken (end_of pends)) 1 (coarse (rect 0 0 1 1) ∷ []))) (captured (coarse (rect 0 0 1 1) ∷ []) 1 (end_of pends))).lossy ≡ false
+abbrev one_lossy : List Planned
+one_lossy = coarse (rect 0 0 1 1) ∷ []
+
+still_lossy : is_empty (file_all 500 (results_of (jobs_of (end_of pends).desk (region_taken (end_of pends)) 1 one_lossy)) (captured one_lossy 1 (end_of pends))).lossy ≡ false
 unfolding each_point has number number_in is_empty
 still_lossy = refl
 
 not_exact : DamageDrawsExact → ⊥
-not_exact claim = false≢true (sym still_lossy ∙ claim (coarse (rect 0 0 1 1) ∷ []) 1 500 (end_of pends) refl pends_lossy_plan.planned pending_pointwise)
+not_exact claim = false≢true (sym still_lossy ∙ claim one_lossy 1 500 (end_of pends) refl pends_lossy_plan.planned pending_pointwise)
 
 -- wrong: that jobs from before the capture play no part. Theirs are not among the results.
 abbrev OldJobsLeave : Type 0
@@ -53,7 +56,10 @@ unfolding each_point has number number_in is_empty
 handed_none = refl
 
 not_old : OldJobsLeave → ⊥
-not_old claim = false≢true (ap (λ (jobs : List Job). is_none jobs) (claim [] 2 500 (end_of in_hand) (nothing_planned (end_of in_hand) (λ x y. has-empty (region_taken (end_of in_hand)) x y handed_none))).drawn)
+not_old claim = false≢true (ap (λ (jobs : List Job). is_none jobs) (claim [] 2 500 (end_of in_hand) (nothing_planned (end_of in_hand) none)).drawn)
+  where
+    none : (x y : ℕ) → has (region_taken (end_of in_hand)) x y ≡ false
+    none x y = has-empty (region_taken (end_of in_hand)) x y handed_none
 
 -- wrong: that the form of the invariant is enough. It does not say that the lossy points have no mark beyond the window, which no
 -- draw would take.
@@ -73,7 +79,14 @@ marked_here = repaired_kept.points 0 0 refl
 
 marked_kept : IsKept marked_beyond
 unfolding each_point has number number_in is_empty
-marked_kept = record { sized = repaired_kept.sized; jobs = repaired_kept.jobs; packets = repaired_kept.packets; pending = repaired_kept.pending; lossy = record { wide = refl; high = refl }; points = at }
+marked_kept = record {
+  sized = repaired_kept.sized;
+  jobs = repaired_kept.jobs;
+  packets = repaired_kept.packets;
+  pending = repaired_kept.pending;
+  lossy = record { wide = refl; high = refl };
+  points = at;
+}
   where
     at : (x y : ℕ) → is_within 1 1 x y ≡ true → PointKept (point_at marked_beyond x y)
     at zero zero within = marked_here
@@ -100,8 +113,12 @@ RestAlwaysStays = (now : ℕ) (j : Job) (jobs : List Job) (w : Window) → w.job
 abbrev job_numbered : ℕ → Bool → Job
 job_numbered k encoded = record { number = k; capture = result (rect 0 0 1 1) (0 ∷ []); relief = record { wide = 1; high = 1; marks = true ∷ [] }; encoded = encoded }
 
+-- the first of two jobs waits
+abbrev in_hand_two : Bool → Window
+in_hand_two encoded = record (end_of pends) { jobs = job_numbered 1 false ∷ job_numbered 2 encoded ∷ [] }
+
 not_always : RestAlwaysStays → ⊥
-not_always claim = false≢true (sym (ap (λ (w : Window). is_none w.jobs) (claim 500 (job_numbered 1 false) (job_numbered 2 true ∷ []) (record (end_of pends) { jobs = job_numbered 1 false ∷ job_numbered 2 true ∷ [] }) refl)))
+not_always claim = false≢true (sym (ap (λ (w : Window). is_none w.jobs) (claim 500 (job_numbered 1 false) (job_numbered 2 true ∷ []) (in_hand_two true) refl)))
 
 -- wrong: that each result takes its job out of hand. Behind one that waits it waits too.
 abbrev AnyResultLeaves : Type 0
@@ -112,4 +129,4 @@ is_single [] = false
 is_single (j ∷ jobs) = is_none jobs
 
 not_any : AnyResultLeaves → ⊥
-not_any claim = false≢true (ap (λ (jobs : List Job). is_single jobs) (claim 500 (job_numbered 1 false) (job_numbered 2 false) (record (end_of pends) { jobs = job_numbered 1 false ∷ job_numbered 2 false ∷ [] }) refl refl))
+not_any claim = false≢true (ap (λ (jobs : List Job). is_single jobs) (claim 500 (job_numbered 1 false) (job_numbered 2 false) (in_hand_two false) refl refl))
