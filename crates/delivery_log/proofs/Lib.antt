@@ -9,8 +9,10 @@ pub mod TimeSteps
 pub mod Reading
 pub mod Turns
 pub mod Distances
+pub mod DrawnOut
 pub mod Situations
 pub mod Telling
 pub mod Examples
 pub mod Neighbours
 pub mod NeighboursOfRest
+pub mod NeighboursOfDrawnOut

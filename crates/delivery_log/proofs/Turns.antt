@@ -12,7 +12,7 @@ use Rattle.delivery_model.specs.Window.{Job, Packet, Window}
 use Rattle.delivery_model.specs.Events.{is_empty, Planned, region_taken, jobs_of, load, captured, queued, queue_ready, with_result, capture_of, Filing, Late, Foreign, Filed, filing_of, filed_as, filed, written_front, written, rect_sent, acknowledged, File, Write, Acknowledge, Capture}
 use Rattle.delivery_model.specs.Refusals.{is_clean, earliest, capture_answer, is_allowed, captured_where}
 use Rattle.delivery_model.specs.Owed.{is_owed, owes}
-use Rattle.delivery_model.specs.Plans.{IsCaptureOf}
+use Rattle.delivery_model.specs.Plans.{IsPlan, IsCaptureOf}
 use Rattle.delivery_model.specs.Changes.{owed_acknowledged, owed_without_front}
 use Rattle.delivery_model.specs.Kept.{IsKept}
 use Rattle.delivery_model.proofs.Grids.{has-points_within, has-empty, empty-has_none, none-is_empty}
@@ -112,9 +112,9 @@ nothing_less v w wide high less none = none-is_empty v.desk.wide v.desk.high (is
     (λ is. false≢true (sym (empty-has_none w.desk.wide w.desk.high (is_owed w) none x y (rw (wide, high) at within)) ∙ (and_parts (is_within w.desk.wide w.desk.high x y) (is_owed w x y) (less x y (and_from _ _ within is))).1)))
 
 -- a refresh: each lossy point is covered by an exact job in hand
-record IsCovered (w : Window) : Type 0 where
-  exact : All (λ (j : Job). j.capture.coding ≡ C.Exact) w.jobs
-  covered : (x y : ℕ) → is_within w.desk.wide w.desk.high x y ≡ true → has w.lossy x y ≡ true → list_any (λ (j : Job). is_in j.capture.rect x y) w.jobs ≡ true
+pub record IsCovered (w : Window) : Type 0 where
+  pub exact : All (λ (j : Job). j.capture.coding ≡ C.Exact) w.jobs
+  pub covered : (x y : ℕ) → is_within w.desk.wide w.desk.high x y ≡ true → has w.lossy x y ≡ true → list_any (λ (j : Job). is_in j.capture.rect x y) w.jobs ≡ true
 
 covered_queued : (now : ℕ) (j : Job) (jobs : List Job) (w : Window) → IsCovered (record w { jobs = j ∷ jobs }) → IsCovered (record (queued now j w) { jobs = jobs })
 covered_queued now j jobs w covered = record {
@@ -161,7 +161,7 @@ covered_filed Filed k now w covered = covered_ready now (with_result w.jobs k) w
   covered = λ x y within lossy. covers-marked k x y w.jobs ∙ covered.covered x y within lossy;
 })
 
-covered_files : (now : ℕ) (results : List Result) (w : Window) → IsCovered w → IsCovered (file_all now results w)
+pub covered_files : (now : ℕ) (results : List Result) (w : Window) → IsCovered w → IsCovered (file_all now results w)
 covered_files now [] w covered = covered
 covered_files now (r ∷ results) w covered = covered_files now results (filed r.number r.capture now w) (covered_filed (filing_of (capture_of w.jobs r.number) r.capture) r.number now w covered)
 
@@ -175,11 +175,11 @@ refresh_covers : (desk : Grid) (region : Points) (first : ℕ) (plan : List Plan
 refresh_covers desk region first [] x y = refl
 refresh_covers desk region first (p ∷ plan) x y = ap (λ (b : Bool). is_in p.rect x y || b) (refresh_covers desk region (first + 1) plan x y)
 
-covered_refresh : (plan : List Planned) (first : ℕ) (w : Window) → w.jobs ≡ [] → is_empty w.pending ≡ true → IsCaptureOf w plan → IsCovered (captured plan first w)
-covered_refresh plan first w none empty event = record {
-  exact = rw none (refresh_exact w.desk (region_taken w) first plan (event.planned.refresh empty));
+pub covered_refresh : (plan : List Planned) (first : ℕ) (w : Window) → w.jobs ≡ [] → is_empty w.pending ≡ true → IsPlan w plan → IsCovered (captured plan first w)
+covered_refresh plan first w none empty planned = record {
+  exact = rw none (refresh_exact w.desk (region_taken w) first plan (planned.refresh empty));
   covered = λ x y within lossy. ap (λ (js : List Job). list_any (λ (j : Job). is_in j.capture.rect x y) (js ++ jobs_of w.desk (region_taken w) first plan)) none
-      ∙ (refresh_covers w.desk (region_taken w) first plan x y ∙ event.planned.covers x y (ap (λ (b : Bool). has (cond b w.lossy w.pending) x y) empty ∙ lossy));
+      ∙ (refresh_covers w.desk (region_taken w) first plan x y ∙ planned.covers x y (ap (λ (b : Bool). has (cond b w.lossy w.pending) x y) empty ∙ lossy));
 }
 
 covered_none : (w : Window) → w.jobs ≡ [] → is_empty w.lossy ≡ true → IsCovered w
@@ -314,7 +314,7 @@ module _ (lossy_shows : ℕ → ℕ) (clock : ℕ) (t : Turn) (w : Window) (quie
       which (inl clear) = taken false (refused_clean t.now t.weight t.first r (as_read.mapped ∙ mapped) (rw (r_empty, clear) refl)) (covered_none r none clear, r_empty)
       which (inr some) =
           let allowed : answered ≡ true = now_allowed idle mapped (rw (r_empty, some, none, unsent) refl) in
-          taken true allowed (covered_refresh t.plan t.first r none r_empty (quiet.planned allowed), pending_captured t.plan t.first r)
+          taken true allowed (covered_refresh t.plan t.first r none r_empty (quiet.planned allowed).planned, pending_captured t.plan t.first r)
 
   refreshed : is_idle w ≡ true → w.mapped ≡ true → is_empty w.pending ≡ true → owes_nothing v ≡ true
   refreshed idle mapped empty = none-is_empty v.desk.wide v.desk.high (is_owed v) (λ x y within. at x y within)

@@ -2,9 +2,9 @@
 use Rattle.std.specs.Prelude.{ℕ, ◌+◌, ◌-◌, ◌≡◌, ◌≤◌, ◌<◌, ◌^◌, Bool, true, false, ◌&&◌, ◌||◌, Option, Some, None, List, [], ◌∷◌, replicate, length, All}
 use Rattle.xp_base.specs.Points.{is_within}
 use Rattle.delivery_model.specs.Grids.{has}
-use Rattle.delivery_model.specs.Window.{Window}
-use Rattle.delivery_model.specs.Events.{is_empty, Planned, captured, jobs_relieve, load, Event, step, run}
-use Rattle.delivery_model.specs.Plans.{IsEvent}
+use Rattle.delivery_model.specs.Window.{Job, Window}
+use Rattle.delivery_model.specs.Events.{is_empty, Planned, region_taken, jobs_of, captured, jobs_relieve, load, queued, capture_of, Filed, filing_of, filed, Event, step, run}
+use Rattle.delivery_model.specs.Plans.{IsPlan, IsEvent}
 use Rattle.delivery_model.specs.Numbers.{NumbersFrom, IsNumbered, next_after}
 use Rattle.delivery_model.specs.Refusals.{is_clean, earliest, capture_answer, is_allowed}
 use Rattle.delivery_model.specs.Owed.{owes}
@@ -14,6 +14,7 @@ use Rattle.delivery_log.specs.Stale.{is_stale, is_stale_queued}
 use Rattle.delivery_log.specs.Agreement.{Agrees, AgreesWhereThere}
 use Rattle.delivery_log.specs.Times.{IsTimed, TimedWhereThere, IsBy}
 use Rattle.delivery_log.specs.Rest.{Turn, Result, IsQuiet, captured_in, turned, read, file_all, write_all, rest, rest_of, is_idle, AllAcknowledged, FrontWaits, HaveResults, CameNearer, AtZero, IsLeast, IsLeastOf, IsPointwise, PointwiseWhereThere, turned_all, are_idle, AreQuiet}
+use Rattle.delivery_log.specs.DrawnOut.{results_of, LossyPointwiseWhereThere, IsDrawnOut}
 
 -- for every log: where it agrees with the window before an event, it does after it, with the event's entries
 abbrev pub EventsKeepAgreement : Type 0
@@ -120,3 +121,17 @@ ClientsRestIsLeast = (others : Bool) (ws : List Window) → All IsPointwise ws �
 
 abbrev pub EventsKeepPointwise : Type 0
 EventsKeepPointwise = (lossy_shows : ℕ → ℕ) (o : Option Window) (e : Event) → PointwiseWhereThere o → PointwiseWhereThere (step lossy_shows o e)
+
+-- a window with no job in hand that is captured is drawn out, once the results of its jobs are filed in their order
+abbrev pub OrderedResultsDrawOut : Type 0
+OrderedResultsDrawOut = (plan : List Planned) (first now : ℕ) (w : Window) → w.jobs ≡ [] → IsPlan w plan
+    → IsDrawnOut w (file_all now (results_of (jobs_of w.desk (region_taken w) first plan)) (captured plan first w))
+
+-- the first job's result is filed, and its draw queued; where the second has no result yet, the others stay in hand
+abbrev pub FrontResultsLeaveTheRest : Type 0
+FrontResultsLeaveTheRest = (now : ℕ) (j : Job) (jobs : List Job) (w : Window) → w.jobs ≡ j ∷ jobs → FrontWaits jobs
+    → (filing_of (capture_of w.jobs j.number) j.capture ≡ Filed) × (filed j.number j.capture now w ≡ queued now j (record w { jobs = jobs }))
+
+-- every event keeps what this needs of the lossy points
+abbrev pub EventsKeepLossyPointwise : Type 0
+EventsKeepLossyPointwise = (lossy_shows : ℕ → ℕ) (o : Option Window) (e : Event) → LossyPointwiseWhereThere o → LossyPointwiseWhereThere (step lossy_shows o e)

@@ -4,4 +4,5 @@ pub mod Traces
 pub mod Agreement
 pub mod Times
 pub mod Rest
+pub mod DrawnOut
 pub mod Laws
