@@ -2,6 +2,7 @@
 #![tactic(auto)]
 
 mod accept;
+mod close;
 mod paint;
 mod prepare;
 mod receive;

@@ -1,5 +1,5 @@
 -- Settling: whoever comes is accepted; reads, captures, results and writes are made; and connections are closed.
-use Rattle.std.specs.Prelude.{ℕ, ◌≡◌, ◌≤◌, Bool, Some, List, [], ◌∷◌, slice_get}
+use Rattle.std.specs.Prelude.{ℕ, ◌≡◌, ◌≤◌, Bool, Option, Some, None, List, [], ◌∷◌, slice_get}
 use Rattle.xp_base.specs.declared.numbers.Conn.{Conn}
 use Rattle.link_bay.specs.Connections.{ConnectionRecord, AllStay, fresh_connection}
 use Rattle.window_model.specs.Desktop.{Window}
@@ -39,6 +39,19 @@ pub record Closes {B : Type 0} (known : Known B) (phase : Phase) (c : Conn) (e :
   pub provider : known.provider new.bay ≡ known.provider old.bay
   pub connections : AllStay (known.connection old.bay) (known.connection new.bay)
   pub changed : new ≡ puts c (Ended e) old new.bay
+
+-- where connection c is open it ends so and is closed, whatever the cause; else nothing changes
+pub record EndsNow {B : Type 0} (known : Known B) (c : Conn) (e : End) (old new : Seen B) : Type 0 where
+  pub provider : known.provider new.bay ≡ known.provider old.bay
+  pub connections : AllStay (known.connection old.bay) (known.connection new.bay)
+  pub changed : new ≡ puts c (Ended e) old new.bay
+
+abbrev pub EndsWhere : {B : Type 0} → Known B → Option ConnectionSeen → Conn → End → Seen B → Seen B → Type 0
+EndsWhere known None c e old new = new ≡ old
+EndsWhere known (Some connection) c e old new = EndsNow known c e old new
+
+abbrev pub EndsOpen : {B : Type 0} → Known B → Conn → End → Seen B → Seen B → Type 0
+EndsOpen known c e old new = EndsWhere known (open_at old.slots c.0) c e old new
 
 pub data Act : Type 0 where
   Accepting : Accepted → Act
