@@ -1,5 +1,5 @@
 -- A write to a connection that was taken out, as the step of a session.
-use Rattle.std.proofs.Common.{◌≡◌, ℕ, ◌<◌, Option, Some, None, List, set, length, sym, ap, ◌∙◌, subst, arith}
+use Rattle.std.proofs.Common.{◌≡◌, ℕ, ◌<◌, Option, Some, List, set, length, sym, ap, ◌∙◌, subst, arith}
 use Rattle.std.specs.Option.{option_map}
 use Rattle.xp_base.specs.declared.numbers.Conn.{Conn}
 use Rattle.link_bay.specs.Connections.{ConnectionRecord, OthersStay, AllStay}
@@ -47,7 +47,7 @@ sends_so known c max seen old slots bay connection after out answer new is at aw
       gives = (says, now ∙ ap (λ (ss : Slots). record seen { slots = set ss c.0 (slot_after after out); bay = new.bay }) away ∙ ap (λ (ss : Slots). record seen { slots = ss; bay = new.bay }) (set_twice seen.slots c.0 Away (slot_after after out)));
     }))
 
--- an end of a connection that was taken out, and of one that is not open
+-- an end of a connection that was taken out
 pub ends_so : {B : Type 0} (known : Known B) (c : Conn) (e : End) (seen old : Seen B) (slots slots' : Slots) (bay : B) (connection : ConnectionSeen)
     → seen ≡ old → open_at seen.slots c.0 ≡ Some connection → slots ≡ set seen.slots c.0 Away → slots' ≡ set slots c.0 (Ended e)
     → AllStay (known.connection seen.bay) (known.connection bay) → known.provider bay ≡ known.provider seen.bay → EndsOpen known c e old (record seen { slots = slots'; bay = bay })
@@ -57,8 +57,3 @@ ends_so known c e seen old slots slots' bay connection is at away ended stay pro
       connections = stay;
       changed = ap (λ (ss : Slots). record seen { slots = ss; bay = bay }) (ended ∙ ap (λ (ss : Slots). set ss c.0 (Ended e)) away ∙ set_twice seen.slots c.0 Away (Ended e));
     }))
-
-pub ends_nowhere : {B : Type 0} (known : Known B) (c : Conn) (e : End) (seen old : Seen B) (slots : Slots) → seen ≡ old → open_at seen.slots c.0 ≡ None → slots ≡ seen.slots
-    → EndsOpen known c e old (record seen { slots = slots })
-ends_nowhere known c e seen old slots is at same = subst (λ (s : Seen _). EndsOpen known c e s (record seen { slots = slots })) is
-    (subst (λ (o : Option ConnectionSeen). EndsWhere known o c e seen (record seen { slots = slots })) (sym at) (ap (λ (ss : Slots). record seen { slots = ss }) same))
