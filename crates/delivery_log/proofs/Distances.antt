@@ -166,7 +166,7 @@ rest_of_is_least others ws all = record {
     at_most false = low_of 3 (λ (w : Window). Unit {0}) ws (any_window (λ (w : Window). Unit {0} → rest w ≤ 3) ws (λ w is. three_low w (cases_Bool (is_idle w)))) (any_window (λ (w : Window). Unit {0}) ws (λ w. tt))
 
 -- every event keeps the pending points a set of the window's points
-pub pointwise_made : (wide high : ℕ) (f : ℕ → ℕ → Bool) → points wide high f ≡ points wide high (has (points wide high f))
+pointwise_made : (wide high : ℕ) (f : ℕ → ℕ → Bool) → points wide high f ≡ points wide high (has (points wide high f))
 pointwise_made wide high f = points_alike wide high f (has (points wide high f)) (λ x y within. sym (has-points_within wide high f x y within))
 
 pointwise_as : (v w : Window) → v.desk.wide ≡ w.desk.wide → v.desk.high ≡ w.desk.high → v.pending ≡ w.pending → IsPointwise w → IsPointwise v

@@ -1,5 +1,5 @@
 -- Results that are filed in the order of their jobs draw a window out.
-use Rattle.std.proofs.Common.{◌≡◌, ℕ, ◌+◌, Bool, true, false, List, [], ◌∷◌, ◌++◌, Option, Some, None, cond, refl, sym, ap, ◌∙◌}
+use Rattle.std.proofs.Common.{◌≡◌, ℕ, ◌+◌, true, false, List, [], ◌∷◌, ◌++◌, refl, sym, ap, ◌∙◌}
 use Rattle.std.specs.Prelude.{nat_eq}
 use Rattle.std.specs.List.{list_any}
 use Rattle.std.proofs.lemmas.Bool.{eq-eqb, false_from_ne_true, false≢true, cond-false}
@@ -10,13 +10,12 @@ use Rattle.xp_base.specs.Points.{Rectangle, is_in, is_within}
 use Rattle.xp_base.specs.Captures.{Captured}
 use Rattle.delivery_model.specs.Grids.{Points, Grid, has, points}
 use Rattle.delivery_model.specs.Window.{Job, Window}
-use Rattle.delivery_model.specs.Events.{is_empty, Planned, region_taken, job_of, jobs_of, captured, lossy_queued, queued, queue_ready, with_result, capture_of, same_coding, same_rectangle, same_capture, Filing, Late, Foreign, Filed, filing_of, filed_as, filed, written_front, rect_sent, acknowledged_as, given_back, Event, Start, Paint, Capture, File, Write, Acknowledge, MapWindow, UnmapWindow, Recall, Resize, BufferRefresh, Close, changed, step}
+use Rattle.delivery_model.specs.Events.{is_empty, Planned, region_taken, job_of, jobs_of, captured, queued, queue_ready, with_result, capture_of, same_coding, same_rectangle, same_capture, Filing, Filed, filing_of, filed_as, filed}
 use Rattle.delivery_model.specs.Plans.{IsPlan}
 use Rattle.delivery_model.proofs.Grids.{none-is_empty}
 use Rattle.delivery_log.specs.Rest.{Result, file_all, FrontWaits}
-use Rattle.delivery_log.specs.DrawnOut.{results_of, IsLossyPointwise, LossyPointwiseWhereThere, IsDrawnOut}
-use Rattle.delivery_log.proofs.Turns.{file_all_stays, front_writes, IsCovered, covered_files, covered_refresh, pending_captured}
-use Rattle.delivery_log.proofs.Distances.{pointwise_made}
+use Rattle.delivery_log.specs.DrawnOut.{results_of, IsDrawnOut}
+use Rattle.delivery_log.proofs.Turns.{file_all_stays, IsCovered, covered_files, covered_refresh, pending_captured}
 
 -- a capture is the same as itself
 same_rectangle-self : (r : Rectangle) → same_rectangle r r ≡ true
@@ -65,73 +64,9 @@ results_empty_made now desk region k (p ∷ plan) w is =
     behind : List Job
     behind = jobs_of desk region (k + 1) plan
 
--- every event keeps the lossy points a set of the window's points
-queued_pointwise : (c : Coding) (rect : Rectangle) (w : Window) → lossy_queued w rect c ≡ points w.desk.wide w.desk.high (has (lossy_queued w rect c))
-queued_pointwise C.Exact rect w = pointwise_made w.desk.wide w.desk.high _
-queued_pointwise C.Lossy rect w = pointwise_made w.desk.wide w.desk.high _
-
-ready_pointwise : (now : ℕ) (jobs : List Job) (w : Window) → IsLossyPointwise w → IsLossyPointwise (queue_ready now jobs w)
-ready_pointwise now [] w is = is
-ready_pointwise now (j ∷ jobs) w is = which j.encoded (ready_pointwise now jobs (queued now j w) (queued_pointwise j.capture.coding j.capture.rect w))
-  where
-    which : (b : Bool) → IsLossyPointwise (queue_ready now jobs (queued now j w)) → IsLossyPointwise (cond b (queue_ready now jobs (queued now j w)) (record w { jobs = j ∷ jobs }))
-    which true rest = rest
-    which false rest = is
-
-filed_pointwise : (f : Filing) (k now : ℕ) (w : Window) → IsLossyPointwise w → IsLossyPointwise (filed_as f k now w)
-filed_pointwise Late k now w is = is
-filed_pointwise Foreign k now w is = is
-filed_pointwise Filed k now w is = ready_pointwise now (with_result w.jobs k) w is
-
-files_pointwise : (now : ℕ) (results : List Result) (w : Window) → IsLossyPointwise w → IsLossyPointwise (file_all now results w)
-files_pointwise now [] w is = is
-files_pointwise now (r ∷ results) w is = files_pointwise now results (filed r.number r.capture now w) (filed_pointwise (filing_of (capture_of w.jobs r.number) r.capture) r.number now w is)
-
-acknowledged_pointwise : (o : Option Rectangle) (k : ℕ) (negative : Bool) (now : ℕ) (w : Window) → IsLossyPointwise w → IsLossyPointwise (acknowledged_as o k negative now w)
-acknowledged_pointwise None k negative now w is = is
-acknowledged_pointwise (Some r) k false now w is = is
-acknowledged_pointwise (Some r) k true now w is = is
-
-unmapped_pointwise : (b : Bool) (now : ℕ) (w : Window) → IsLossyPointwise w → IsLossyPointwise (cond b (record (given_back now w) { mapped = false }) w)
-unmapped_pointwise true now w is = is
-unmapped_pointwise false now w is = is
-
-written_pointwise : (lossy_shows : ℕ → ℕ) (w : Window) → IsLossyPointwise w → IsLossyPointwise (written_front lossy_shows w.packets w)
-written_pointwise lossy_shows w is = let wrote = front_writes lossy_shows w.packets w in rw (wrote.stays.desk, wrote.lossy) is
-
-changed_pointwise : (lossy_shows : ℕ → ℕ) (e : Event) (w : Window) → IsLossyPointwise w → LossyPointwiseWhereThere (changed lossy_shows e w)
-changed_pointwise lossy_shows (Start desk now) w is = is
-changed_pointwise lossy_shows (Paint r numbers now) w is = is
-changed_pointwise lossy_shows (Capture plan first) w is = is
-changed_pointwise lossy_shows (File k capture now) w is = filed_pointwise (filing_of (capture_of w.jobs k) capture) k now w is
-changed_pointwise lossy_shows (Write true) w is = written_pointwise lossy_shows w is
-changed_pointwise lossy_shows (Write false) w is = is
-changed_pointwise lossy_shows (Acknowledge k negative now) w is = acknowledged_pointwise (rect_sent w.unacknowledged k) k negative now w is
-changed_pointwise lossy_shows MapWindow w is = is
-changed_pointwise lossy_shows (UnmapWindow now) w is = unmapped_pointwise w.mapped now w is
-changed_pointwise lossy_shows (Recall now) w is = is
-changed_pointwise lossy_shows (Resize wide high now) w is = pointwise_made wide high _
-changed_pointwise lossy_shows (BufferRefresh now) w is = is
-changed_pointwise lossy_shows Close w is = tt
-
-pub lossy_pointwise_step : (lossy_shows : ℕ → ℕ) (o : Option Window) (e : Event) → LossyPointwiseWhereThere o → LossyPointwiseWhereThere (step lossy_shows o e)
-lossy_pointwise_step lossy_shows (Some w) e is = changed_pointwise lossy_shows e w is
-lossy_pointwise_step lossy_shows None (Start desk now) is = pointwise_made desk.wide desk.high _
-lossy_pointwise_step lossy_shows None (Paint r numbers now) is = tt
-lossy_pointwise_step lossy_shows None (Capture plan first) is = tt
-lossy_pointwise_step lossy_shows None (File k capture now) is = tt
-lossy_pointwise_step lossy_shows None (Write wholly) is = tt
-lossy_pointwise_step lossy_shows None (Acknowledge k negative now) is = tt
-lossy_pointwise_step lossy_shows None MapWindow is = tt
-lossy_pointwise_step lossy_shows None (UnmapWindow now) is = tt
-lossy_pointwise_step lossy_shows None (Recall now) is = tt
-lossy_pointwise_step lossy_shows None (Resize wide high now) is = tt
-lossy_pointwise_step lossy_shows None (BufferRefresh now) is = tt
-lossy_pointwise_step lossy_shows None Close is = tt
-
 -- a refresh leaves no lossy point: each would lie in the rectangle of a job in hand
-uncovered_none : (w : Window) → w.jobs ≡ [] → IsCovered w → IsLossyPointwise w → is_empty w.lossy ≡ true
-uncovered_none w none covers pointwise = ap is_empty pointwise ∙ none-is_empty w.desk.wide w.desk.high (has w.lossy) unlossy
+uncovered_none : (w : Window) → w.jobs ≡ [] → IsCovered w → is_empty (points w.desk.wide w.desk.high (has w.lossy)) ≡ true
+uncovered_none w none covers = none-is_empty w.desk.wide w.desk.high (has w.lossy) unlossy
   where
     unlossy : (x y : ℕ) → is_within w.desk.wide w.desk.high x y ≡ true → has w.lossy x y ≡ false
     unlossy x y within = false_from_ne_true (has w.lossy x y) (λ lossy. false≢true (sym (ap (λ (js : List Job). list_any (λ (j : Job). is_in j.capture.rect x y) js) none) ∙ covers.covered x y within lossy))
@@ -141,8 +76,7 @@ pub ordered_results_draw_out : (plan : List Planned) (first now : ℕ) (w : Wind
 ordered_results_draw_out plan first now w none planned = record {
   drawn = drawn;
   taken = ap is_empty (file_all_stays now results taken).pending ∙ pending_captured plan first w;
-  exact = λ pointwise empty. uncovered_none (file_all now results taken) drawn (covered_files now results taken (covered_refresh plan first w none empty planned))
-      (files_pointwise now results taken pointwise);
+  exact = λ empty. uncovered_none (file_all now results taken) drawn (covered_files now results taken (covered_refresh plan first w none empty planned));
 }
   where
     results : List Result

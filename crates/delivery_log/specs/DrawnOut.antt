@@ -1,5 +1,5 @@
 -- What the results of a capture leave, where they are filed in the order of its jobs. This project's own.
-use Rattle.std.specs.Prelude.{◌≡◌, true, Option, Some, None, List, [], map}
+use Rattle.std.specs.Prelude.{◌≡◌, true, List, [], map}
 use Rattle.delivery_model.specs.Grids.{points, has}
 use Rattle.delivery_model.specs.Window.{Job, Window}
 use Rattle.delivery_model.specs.Events.{is_empty}
@@ -9,17 +9,9 @@ use Rattle.delivery_log.specs.Rest.{Result}
 abbrev pub results_of : List Job → List Result
 results_of jobs = map (λ (j : Job). record { number = j.number; capture = j.capture }) jobs
 
--- the lossy points are a set of points of the window and have no mark beyond it, so the set is empty where no point is lossy
-abbrev pub IsLossyPointwise : Window → Type 0
-IsLossyPointwise w = w.lossy ≡ points w.desk.wide w.desk.high (has w.lossy)
-
-abbrev pub LossyPointwiseWhereThere : Option Window → Type 0
-LossyPointwiseWhereThere None = Unit {0}
-LossyPointwiseWhereThere (Some w) = IsLossyPointwise w
-
--- v is w drawn out: no job is in hand and nothing is pending; and nothing is lossy where the capture was a refresh, that is, where
+-- v is w drawn out: no job is in hand and nothing is pending; and no point is lossy where the capture was a refresh, that is, where
 -- nothing was pending before it
 pub record IsDrawnOut (w v : Window) : Type 0 where
   pub drawn : v.jobs ≡ []
   pub taken : is_empty v.pending ≡ true
-  pub exact : IsLossyPointwise w → is_empty w.pending ≡ true → is_empty v.lossy ≡ true
+  pub exact : is_empty w.pending ≡ true → is_empty (points v.desk.wide v.desk.high (has v.lossy)) ≡ true

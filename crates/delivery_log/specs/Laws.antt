@@ -14,7 +14,7 @@ use Rattle.delivery_log.specs.Stale.{is_stale, is_stale_queued}
 use Rattle.delivery_log.specs.Agreement.{Agrees, AgreesWhereThere}
 use Rattle.delivery_log.specs.Times.{IsTimed, TimedWhereThere, IsBy}
 use Rattle.delivery_log.specs.Rest.{Turn, Result, IsQuiet, captured_in, turned, read, file_all, write_all, rest, rest_of, is_idle, AllAcknowledged, FrontWaits, HaveResults, CameNearer, AtZero, IsLeast, IsLeastOf, IsPointwise, PointwiseWhereThere, turned_all, are_idle, AreQuiet}
-use Rattle.delivery_log.specs.DrawnOut.{results_of, LossyPointwiseWhereThere, IsDrawnOut}
+use Rattle.delivery_log.specs.DrawnOut.{results_of, IsDrawnOut}
 
 -- for every log: where it agrees with the window before an event, it does after it, with the event's entries
 abbrev pub EventsKeepAgreement : Type 0
@@ -131,7 +131,3 @@ OrderedResultsDrawOut = (plan : List Planned) (first now : ℕ) (w : Window) →
 abbrev pub FrontResultsLeaveTheRest : Type 0
 FrontResultsLeaveTheRest = (now : ℕ) (j : Job) (jobs : List Job) (w : Window) → w.jobs ≡ j ∷ jobs → FrontWaits jobs
     → (filing_of (capture_of w.jobs j.number) j.capture ≡ Filed) × (filed j.number j.capture now w ≡ queued now j (record w { jobs = jobs }))
-
--- every event keeps what this needs of the lossy points
-abbrev pub EventsKeepLossyPointwise : Type 0
-EventsKeepLossyPointwise = (lossy_shows : ℕ → ℕ) (o : Option Window) (e : Event) → LossyPointwiseWhereThere o → LossyPointwiseWhereThere (step lossy_shows o e)

@@ -3,7 +3,7 @@ ghost use Rattle.delivery_log.specs.Laws.{EventsKeepAgreement, AgreementWaits, O
 ghost use Rattle.delivery_log.specs.Laws.{EventsKeepTimes, TimesWait, DueAfterTick, ReadingUnloads, FilingEmpties, ResultsEmpty, WritingEmpties};
 ghost use Rattle.delivery_log.specs.Laws.{ReadingKeepsRest, CapturePendsNothing, CaptureAllowed, EndsNearer, QuietTurnsRest, NearerTogether};
 ghost use Rattle.delivery_log.specs.Laws.{ClientsRest, ThreeTurnsRepair, RestIsLeast, ClientsRestIsLeast, EventsKeepPointwise};
-ghost use Rattle.delivery_log.specs.Laws.{OrderedResultsDrawOut, FrontResultsLeaveTheRest, EventsKeepLossyPointwise};
+ghost use Rattle.delivery_log.specs.Laws.{OrderedResultsDrawOut, FrontResultsLeaveTheRest};
 
 /// For every log: where it agrees with the window before an event, it does after it, with the event's
 /// entries. A start begins a log that agrees.
@@ -76,11 +76,9 @@ pub fn rest_is_the_least_of_its_table()
 {}
 
 /// A window with no job in hand that is captured is drawn out once the results of its jobs are filed in their
-/// order: no job is in hand, nothing is pending, and after a refresh nothing is lossy. The first job's result is
-/// filed; the jobs behind it stay in hand where the next one has no result yet. Every event keeps what this needs
-/// of a window: that its lossy points are a set of its points.
+/// order: no job is in hand, nothing is pending, and after a refresh no point is lossy. The first job's result is
+/// filed; the jobs behind it stay in hand where the next one has no result yet.
 pub fn results_in_order_draw_a_window_out()
     ensures drawn { OrderedResultsDrawOut }
     ensures rest { FrontResultsLeaveTheRest }
-    ensures kept { EventsKeepLossyPointwise }
 {}
