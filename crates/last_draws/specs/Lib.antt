@@ -1,0 +1,2 @@
+pub mod DrawnThrough
+pub mod Filing
