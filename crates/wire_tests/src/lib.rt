@@ -1,4 +1,4 @@
-//! Tests of what stands between pixels and bytes: values, frames, hellos, packets and codings. Nothing stands on this crate.
+//! Tests of what stands between pixels and bytes: values, frames, hellos and codings. Nothing stands on this crate.
 #![tactic(auto)]
 
 #[cfg(test)]
@@ -7,7 +7,5 @@ mod codings;
 mod frames;
 #[cfg(test)]
 mod hello;
-#[cfg(test)]
-mod kinds;
 #[cfg(test)]
 mod values;
