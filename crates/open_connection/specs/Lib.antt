@@ -4,3 +4,4 @@ pub mod Changing
 pub mod Sending
 pub mod Laws
 pub mod Clear
+pub mod Drawing

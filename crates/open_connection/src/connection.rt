@@ -1,5 +1,5 @@
 // A connection that is open.
-ghost use Rattle.std.specs.Prelude.{◌≡◌, ◌<◌, ◌≤◌, IfOk, option_copied};
+ghost use Rattle.std.specs.Prelude.{◌≡◌, ◌<◌, ◌≤◌, IfOk, OnOk, option_copied};
 ghost use Rattle.xp_base.specs.Clocks.{last_moment};
 ghost use Rattle.attached_client.specs.Acting.{acts};
 ghost use Rattle.link_bay.specs.Connections.{OthersStay};
@@ -8,8 +8,9 @@ ghost use Rattle.open_connection.specs.Reading.{HearsPiece};
 ghost use Rattle.open_connection.specs.Changing.{FitsIn, IsPreparedIn, ConnectionChanges};
 ghost use Rattle.open_connection.specs.Sending.{SendsOn};
 ghost use Rattle.open_connection.specs.Clear.{is_clear_connection};
+ghost use Rattle.open_connection.specs.Drawing.{ConnectionDraws, ConnectionNearer};
 
-use crate::client::{carry_out, preparing, send};
+use crate::client::{carry_out, draw, preparing, send};
 use crate::heard::Heard;
 use crate::step::{Surroundings, hear_packets};
 use attached_client::{Attached, Change, Prepared};
@@ -19,7 +20,7 @@ use link_bay::Bay;
 use packet_frames::Framer;
 use std::alloc::Global;
 use std::marker::Model;
-use window_model::Desk;
+use window_model::{Desk, Win};
 use xp_base::{Conn, NoMemory};
 
 /// The greatest payload or chunk that a client may send, in bytes.
@@ -110,6 +111,17 @@ impl Connection {
     {
         send(&mut self.client, bay, c, max)
     }
+
+    /// Draws what is left of a window of the desktop at once for its client, at this moment in milliseconds: in one capture, or
+    /// in two where the first may be lossy.
+    pub fn draw(&mut self, alloc: Global, window: &Win, now: u64) -> Result<(), NoMemory>
+        requires by_clock { now ≤ last_moment }
+        ensures drawn { ConnectionDraws window.now now (connection_in self.old) (connection_in self.new) }
+        ensures nearer { OnOk result (ConnectionNearer window.now.wid (connection_in self.old) (connection_in self.new)) }
+    {
+        draw(&mut self.client, alloc, window, now)
+    }
+
     /// Whether its hello was accepted and nothing is left to be drawn of any window of its client. Draws may wait still.
     pub fn is_clear(&self) -> bool
         ensures { result ≡ is_clear_connection (connection_in self.now) }

@@ -8,3 +8,4 @@ pub mod Receives
 pub mod Preparing
 pub mod Carrying
 pub mod Painted
+pub mod Drawings

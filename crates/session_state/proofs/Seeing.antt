@@ -1,5 +1,5 @@
 -- A session seen after a part of it changed.
-use Rattle.std.proofs.Common.{◌≡◌, ◌≢◌, ℕ, ◌<◌, ◌≤◌, true, [], ◌∷◌, ◌++◌, refl, sym, ap, ◌∙◌, subst, arith}
+use Rattle.std.proofs.Common.{◌≡◌, ◌≢◌, ℕ, ◌+◌, ◌^◌, ◌<◌, ◌≤◌, true, [], ◌∷◌, ◌++◌, refl, sym, ap, ◌∙◌, subst, arith}
 use Rattle.xp_base.specs.declared.numbers.Conn.{Conn}
 use Rattle.link_bay.specs.Connections.{ConnectionRecord, OthersStay}
 use Rattle.link_bay.specs.Answers.{AcceptGives}
@@ -40,20 +40,20 @@ module _ {B : Type 0} where
       (room, (record { provider = refl; connections = λ j low. refl }), ap (λ (ss : Slots). record seen { slots = ss }) same)
 
   module _ (known : Known B) (seen old : Seen B) (slots : Slots) (bay : B) (is : seen ≡ old) (room : open_count seen.slots < 8)
-      (others : OthersStay (known.connection seen.bay) (known.connection bay) (known.provider seen.bay).count) where
+      (others : OthersStay (known.connection seen.bay) (known.connection bay) (known.provider seen.bay).count) (numbered : (known.provider bay).count + (known.provider bay).room < 2 ^ 32) where
     pub accept_comes : (c : Conn) → AcceptGives known.tells (known.provider seen.bay) (known.provider bay) (known.connection bay) (V.Conn c) → slots ≡ seen.slots ++ Open fresh ∷ []
         → Accepts known old (A.Conn c) (record seen { slots = slots; bay = bay })
     accept_comes c gives same = subst (λ (s : Seen B). Accepts known s (A.Conn c) (record seen { slots = slots; bay = bay })) is
-        ((record { room = room; gives = gives; others = others }), ap (λ (ss : Slots). record seen { slots = ss; bay = bay }) same)
+        ((record { room = room; gives = gives; others = others; numbered = omega (arith, numbered) }), ap (λ (ss : Slots). record seen { slots = ss; bay = bay }) same)
 
     pub accept_nobody : AcceptGives known.tells (known.provider seen.bay) (known.provider bay) (known.connection bay) V.Nobody → slots ≡ seen.slots → Accepts known old A.Nobody (record seen { slots = slots; bay = bay })
     accept_nobody gives same = subst (λ (s : Seen B). Accepts known s A.Nobody (record seen { slots = slots; bay = bay })) is
-        ((record { room = room; gives = gives; others = others }), ap (λ (ss : Slots). record seen { slots = ss; bay = bay }) same)
+        ((record { room = room; gives = gives; others = others; numbered = omega (arith, numbered) }), ap (λ (ss : Slots). record seen { slots = ss; bay = bay }) same)
 
     pub accept_failed : AcceptGives known.tells (known.provider seen.bay) (known.provider bay) (known.connection bay) V.Failed → slots ≡ seen.slots
         → Accepts known old A.Failed (record seen { slots = slots; accept_failed = true; bay = bay })
     accept_failed gives same = subst (λ (s : Seen B). Accepts known s A.Failed (record seen { slots = slots; accept_failed = true; bay = bay })) is
-        ((record { room = room; gives = gives; others = others }), ap (λ (ss : Slots). record seen { slots = ss; accept_failed = true; bay = bay }) same)
+        ((record { room = room; gives = gives; others = others; numbered = omega (arith, numbered) }), ap (λ (ss : Slots). record seen { slots = ss; accept_failed = true; bay = bay }) same)
 
     pub accept_without : AcceptGives known.tells (known.provider seen.bay) (known.provider bay) (known.connection bay) V.NoMemory → slots ≡ seen.slots → Accepts known old A.NoMemory (record seen { slots = slots; bay = bay })
     accept_without gives same = subst (λ (s : Seen B). Accepts known s A.NoMemory (record seen { slots = slots; bay = bay })) is

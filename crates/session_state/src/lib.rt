@@ -3,8 +3,10 @@
 
 mod accept;
 mod close;
+mod draw;
 mod paint;
 mod prepare;
+mod readers;
 mod receive;
 mod send;
 mod state;

@@ -1,5 +1,5 @@
 -- A session begins, its clock goes on, and connections come.
-use Rattle.std.proofs.Common.{◌≡◌, ◌≢◌, ℕ, ◌+◌, ◌<◌, ◌≤◌, Bool, true, false, ◌⊎◌, inl, inr, Some, None, List, [], ◌∷◌, ◌++◌, length, refl, sym, ap, ◌∙◌, subst, arith}
+use Rattle.std.proofs.Common.{◌≡◌, ◌≢◌, ℕ, ◌+◌, ◌^◌, ◌<◌, ◌≤◌, Bool, true, false, ◌⊎◌, inl, inr, Some, None, List, [], ◌∷◌, ◌++◌, length, refl, sym, ap, ◌∙◌, subst, arith}
 use Rattle.std.specs.Prelude.{slice_get}
 use Rattle.std.proofs.lemmas.List.{length-append}
 use Rattle.xp_base.specs.Counts.{Rose}
@@ -27,6 +27,7 @@ begins_steady known were_opened bay is = record {
   holds = λ k has. absurd (cc has);
   clocked = omega arith;
   counted = sym is.count;
+  numbered = let none = is.count in omega (arith, none);
   few = omega arith;
   failed = λ bad. absurd (cc bad);
   slots = λ k slot found. absurd (cc found);
@@ -39,6 +40,7 @@ tick_keeps known phase were_opened moment s steady = record {
   holds = steady.holds;
   clocked = let low = steady.clocked in omega (arith, low);
   counted = steady.counted;
+  numbered = steady.numbered;
   few = steady.few;
   failed = steady.failed;
   slots = steady.slots;
@@ -62,6 +64,7 @@ bay_keeps stay known phase were_opened s bay failed count faults same steady = r
   holds = steady.holds;
   clocked = steady.clocked;
   counted = steady.counted ∙ sym count;
+  numbered = let few = steady.numbered in omega (arith, few, count);
   few = steady.few;
   failed = faults;
   slots = same_slots stay known phase were_opened s bay same steady;
@@ -79,14 +82,15 @@ module _ (stay : CausesStay) (accepted : AcceptedIsKept) {B : Type 0} (known : K
   earlier_same_at bay others j low = others j (λ same. let all = steady.counted in omega (arith, low, all, same))
 
   -- a connection came
-  comes : (bay : B) → (known.provider bay).count ≡ (known.provider old.bay).count + 1 → (known.provider bay).faults ≡ (known.provider old.bay).faults → open_count old.slots < 8
+  comes : (bay : B) → (known.provider bay).count < 2 ^ 32 → (known.provider bay).count ≡ (known.provider old.bay).count + 1 → (known.provider bay).faults ≡ (known.provider old.bay).faults → open_count old.slots < 8
       → known.connection bay (known.provider old.bay).count ≡ fresh_connection known.tells → OthersStay (known.connection old.bay) (known.connection bay) (known.provider old.bay).count
       → IsSteady known phase were_opened (record old { slots = old.slots ++ Open fresh ∷ []; bay = bay })
-  comes bay count faults room at others = record {
+  comes bay numbered count faults room at others = record {
     desktop = steady.desktop;
     holds = steady.holds;
     clocked = steady.clocked;
     counted = long ∙ ap (λ n. n + 1) steady.counted ∙ sym count;
+    numbered = numbered;
     few = let more = open_push old.slots fresh in omega (arith, more, room);
     failed = λ is. subst (λ n. 1 ≤ n) (sym faults) (steady.failed is);
     slots = slots;
@@ -114,7 +118,7 @@ accept_keeps stay accepted known phase were_opened old new A.Full is steady = su
 accept_keeps stay accepted known phase were_opened old new (A.Conn c) is steady =
     let asks = is.0 in
     subst (IsSteady known phase were_opened) (sym is.1)
-    (comes stay accepted known phase were_opened old steady new.bay (ap (λ (p : ProviderRecord). p.count) asks.gives.2) (ap (λ (p : ProviderRecord). p.faults) asks.gives.2) asks.room asks.gives.3 asks.others)
+    (comes stay accepted known phase were_opened old steady new.bay asks.numbered (ap (λ (p : ProviderRecord). p.count) asks.gives.2) (ap (λ (p : ProviderRecord). p.faults) asks.gives.2) asks.room asks.gives.3 asks.others)
 accept_keeps stay accepted known phase were_opened old new A.Nobody is steady =
     let asks = is.0 in
     subst (IsSteady known phase were_opened) (sym is.1)

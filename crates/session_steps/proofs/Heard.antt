@@ -117,6 +117,7 @@ module _ (causes : Causes) {B : Type 0} (known : Known B) (phase : Phase) (were_
     holds = steady.holds;
     clocked = steady.clocked;
     counted = all ∙ steady.counted ∙ ap (λ p. p.count) (sym provider);
+    numbered = let few = steady.numbered in let same = ap (λ p. p.count) provider in omega (arith, few, same);
     few = let most = steady.few in omega (arith, most, fewer);
     failed = λ is. subst (λ p. 1 ≤ p.faults) (sym provider) (steady.failed is);
     slots = λ j s found. subst (λ n. IsSlot known.tells phase old.desk were_opened (known.connection bay) n j s) (sym all) (go j s (set_at slots c.0 j slot s found));

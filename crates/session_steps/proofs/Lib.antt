@@ -7,3 +7,4 @@ pub mod Written
 pub mod LinesPainted
 pub mod Drawn
 pub mod Settled
+pub mod AtOnce

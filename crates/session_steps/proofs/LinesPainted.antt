@@ -122,6 +122,7 @@ module _ (changing : ChangingKeeps) (tells_so : ChangingTells) (stays : ChangeSt
     holds = holds;
     clocked = steady.clocked;
     counted = many.0 ∙ steady.counted;
+    numbered = steady.numbered;
     few = let most = steady.few in let same = many.1 in omega (arith, most, same);
     failed = steady.failed;
     slots = slots;

@@ -30,6 +30,7 @@ settling_begins known were_opened s steady = record {
   holds = steady.holds;
   clocked = steady.clocked;
   counted = steady.counted;
+  numbered = steady.numbered;
   few = steady.few;
   failed = steady.failed;
   slots = λ k slot found. go k slot found (steady.slots k slot found);

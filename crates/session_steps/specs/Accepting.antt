@@ -1,5 +1,5 @@
 -- An accept.
-use Rattle.std.specs.Prelude.{ℕ, ◌≡◌, ◌≤◌, ◌<◌, true, List, [], ◌∷◌, ◌++◌}
+use Rattle.std.specs.Prelude.{ℕ, ◌≡◌, ◌≤◌, ◌<◌, ◌^◌, true, List, [], ◌∷◌, ◌++◌}
 use Rattle.link_bay.specs.Connections.{OthersStay}
 use Rattle.link_bay.specs.Answers.{AcceptGives}
 use Rattle.link_bay.specs.declared.bay.Accept.{Accept}
@@ -19,6 +19,7 @@ pub record Asks {B : Type 0} (known : Known B) (old new : Seen B) (accept : Acce
   pub room : open_count old.slots < capacity
   pub gives : AcceptGives known.tells (known.provider old.bay) (known.provider new.bay) (known.connection new.bay) accept
   pub others : OthersStay (known.connection old.bay) (known.connection new.bay) (known.provider old.bay).count
+  pub numbered : (known.provider new.bay).count < 2 ^ 32
 
 -- by the answer; without memory the provider is known as before, whether it was asked or not
 abbrev pub Accepts : {B : Type 0} → Known B → Seen B → Accepted → Seen B → Type 0

@@ -1,5 +1,5 @@
 -- Settling: whoever comes is accepted; reads, captures, results and writes are made; and connections are closed.
-use Rattle.std.specs.Prelude.{ℕ, ◌≡◌, ◌≤◌, Bool, Option, Some, None, List, [], ◌∷◌, slice_get}
+use Rattle.std.specs.Prelude.{ℕ, ◌≡◌, ◌≤◌, Bool, Option, Some, None, List, [], ◌∷◌, map, slice_get}
 use Rattle.xp_base.specs.declared.numbers.Conn.{Conn}
 use Rattle.link_bay.specs.Connections.{ConnectionRecord, AllStay, fresh_connection}
 use Rattle.window_model.specs.Desktop.{Window}
@@ -18,7 +18,7 @@ use Rattle.session_steps.specs.Seen.{Known, Seen}
 use Rattle.session_steps.specs.Accepting.{Accepts}
 use Rattle.session_steps.specs.Reading.{Receives, puts}
 use Rattle.session_steps.specs.Sending.{Sends}
-use Rattle.session_steps.specs.Drawing.{DrawsOn}
+use Rattle.session_steps.specs.Drawing.{DrawsOn, DrawsAt}
 use Rattle.session_steps.specs.Steady.{Phase, Stepping, Settling, TakerIsKnown, EndsIn, IsSteady}
 
 -- the phase that begins with this session
@@ -72,6 +72,19 @@ ActsSo known phase (Closing c e) old new = Closes known phase c e old new
 abbrev pub SettlesBy : {B : Type 0} → Known B → Phase → List Act → Seen B → Seen B → Type 0
 SettlesBy known phase [] old new = new ≡ old
 SettlesBy {B = B} known phase (act ∷ acts) old new = (next : Seen B) × ActsSo known phase act old next × SettlesBy known phase acts next new
+
+-- each of these is drawn for connection c
+abbrev pub drawn_for : Conn → List Drawing → List Act
+drawn_for c drawings = map (Drawn c) drawings
+
+pub record DrawnByActs {B : Type 0} (known : Known B) (phase : Phase) (c : Conn) (old new : Seen B) : Type 0 where
+  pub drawings : List Drawing
+  pub by : SettlesBy known phase (drawn_for c drawings) old new
+
+-- a window that is drawn at once is drawn by such acts
+abbrev pub DrawnAtOnce : Type 0 → Type 0
+DrawnAtOnce B = (known : Known B) (phase : Phase) (were_opened : ℕ → Bool) (c : Conn) (place : ℕ) (went_well : Bool) (old new : Seen B) → DrawsAt c place went_well old new
+    → IsSteady known phase were_opened old → DrawnByActs known phase c old new
 
 -- what every session keeps is kept from settling's beginning on, by every act
 abbrev pub SettlingBegins : Type 0 → Type 0

@@ -1,5 +1,5 @@
 -- What every session keeps.
-use Rattle.std.specs.Prelude.{ℕ, ◌≡◌, ◌≤◌, ◌<◌, Bool, true, Option, Some, None, List, [], length, slice_get}
+use Rattle.std.specs.Prelude.{ℕ, ◌≡◌, ◌≤◌, ◌<◌, ◌^◌, Bool, true, Option, Some, None, List, [], length, slice_get}
 use Rattle.xp_base.specs.Clocks.{last_moment}
 use Rattle.link_bay.specs.Connections.{ConnectionRecord, fresh_connection}
 use Rattle.link_bay.specs.Provider.{ProviderRecord}
@@ -69,12 +69,14 @@ IsSince Stepping desk slots connection = Unit {0}
 IsSince (Settling began_desk began was) desk slots connection = (desk ≡ began_desk) × GoesOnSince began was slots connection
 
 -- The desktop is one, and its windows' numbers were opened; place k of the slots is the provider's connection k, and what is
--- kept of each is kept; at most `capacity` are open; and an accept failed only where the provider had a fault.
+-- kept of each is kept; their numbers are of 32 bits; at most `capacity` are open; and an accept failed only where the provider had a
+-- fault.
 pub record IsSteady {B : Type 0} (known : Known B) (phase : Phase) (were_opened : ℕ → Bool) (s : Seen B) : Type 0 where
   pub desktop : IsDesktop s.desk
   pub holds : HoldsDesk s.desk were_opened
   pub clocked : s.clock ≤ last_moment
   pub counted : length s.slots ≡ (known.provider s.bay).count
+  pub numbered : (known.provider s.bay).count < 2 ^ 32
   pub few : open_count s.slots ≤ capacity
   pub failed : s.accept_failed ≡ true → 1 ≤ (known.provider s.bay).faults
   pub slots : AreSlots known.tells phase s.desk were_opened (known.connection s.bay) (length s.slots) s.slots

@@ -13,4 +13,5 @@ pub use laws::{
 };
 pub use settling::{
     drawing_keeps_a_session, ends_of_settling_have_causes, settling_keeps_a_session,
+    windows_drawn_at_once_are_drawn_by_acts,
 };

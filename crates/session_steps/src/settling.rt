@@ -1,6 +1,6 @@
 // A session is settled. Each law makes the calls of the laws that it stands on.
 ghost use Rattle.session_steps.specs.Drawing.{DrawKeeps};
-ghost use Rattle.session_steps.specs.Settling.{SettlingBegins, SettlingKeeps, CauseCame, AllEndRightly};
+ghost use Rattle.session_steps.specs.Settling.{DrawnAtOnce, SettlingBegins, SettlingKeeps, CauseCame, AllEndRightly};
 
 use crate::laws::{a_read_keeps_a_session, a_write_keeps_a_session, an_accept_keeps_a_session};
 use attached_client::drawing_keeps_a_client;
@@ -17,6 +17,11 @@ pub fn drawing_keeps_a_session<B>()
     causes_count_from_earlier();
     only_settled_speaks_of_the_desktop();
 }
+
+/// A window that is drawn at once is drawn by captures, results, and jobs given back.
+pub fn windows_drawn_at_once_are_drawn_by_acts<B>()
+    ensures { DrawnAtOnce B }
+{}
 
 /// What every session keeps it keeps while it is settled, through all acts.
 pub fn settling_keeps_a_session<B>()

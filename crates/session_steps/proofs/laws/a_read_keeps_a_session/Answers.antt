@@ -1,4 +1,4 @@
-use Rattle.session_steps.proofs.Heard.{Laws, receive_keeps}
+use Rattle.session_steps.proofs.Heard.{receive_keeps}
 use Rattle.session_steps.proofs.laws.a_read_keeps_a_session.Goals as goal
 
 pub returns : goal.returns
