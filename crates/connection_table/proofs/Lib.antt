@@ -1,3 +1,4 @@
 pub mod Slots
 pub mod Keeping
 pub mod Next
+pub mod Ends

@@ -5,6 +5,18 @@ use Rattle.connection_table.specs.declared.place.Place.{Place}
 use Rattle.connection_table.specs.declared.place.Place.TheVariants as P
 use Rattle.connection_table.specs.Tables.{Slot, Open, Away, Ended}
 
+-- the places by their numbers, and how many more can be put in without memory
+pub record Listed (E : Type 0) : Type 0 where
+  pub places : List (Place E)
+  pub room : ℕ
+
+-- the ends of the places that have ended, in order
+abbrev pub ends_in : {E : Type 0} → List (Place E) → List E
+ends_in [] = []
+ends_in (P.Open key ∷ places) = ends_in places
+ends_in (P.Away ∷ places) = ends_in places
+ends_in (P.Ended e ∷ places) = e ∷ ends_in places
+
 abbrev pub slot_with : {T E : Type 0} → Option T → Slot T E
 slot_with None = Away
 slot_with (Some t) = Open t

@@ -1,5 +1,5 @@
 -- A table of connections by their numbers. This project's own.
-use Rattle.std.specs.Prelude.{ℕ, ◌+◌, ◌≡◌, ◌≤◌, ◌<◌, Bool, true, false, Option, Some, None, List, [], ◌∷◌, slice_get, if◌then◌else◌}
+use Rattle.std.specs.Prelude.{ℕ, ◌+◌, ◌≡◌, ◌≤◌, ◌<◌, Bool, true, false, Option, Some, None, List, [], ◌∷◌, map, slice_get, if◌then◌else◌}
 
 -- a connection that is open, one that was taken out to be changed, and one that has ended
 pub data Slot (T E : Type 0) : Type 0 where
@@ -44,6 +44,18 @@ open_at slots k = opened (slice_get slots k)
 abbrev pub open_count : {T E : Type 0} → List (Slot T E) → ℕ
 open_count [] = 0
 open_count (slot ∷ slots) = (if is_open slot then 1 else 0) + open_count slots
+
+-- the ends of the slots that have ended, in order; open ones and those that were taken out give none
+abbrev pub ends_of : {T E : Type 0} → List (Slot T E) → List E
+ends_of [] = []
+ends_of (Open t ∷ slots) = ends_of slots
+ends_of (Away ∷ slots) = ends_of slots
+ends_of (Ended e ∷ slots) = e ∷ ends_of slots
+
+-- where no slot is open and none was taken out, each is the end of its place
+abbrev pub AllEnded : Type 0 → Type 0 → Type 0
+AllEnded T E = (slots : List (Slot T E)) → open_count slots ≡ 0 → ((k : ℕ) → slice_get slots k ≡ Some Away → ⊥)
+    → slots ≡ map Ended (ends_of slots)
 
 -- none from the one number on to the other is open
 abbrev pub NoOpenBetween : {T E : Type 0} → List (Slot T E) → ℕ → ℕ → Type 0

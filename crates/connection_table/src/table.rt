@@ -1,9 +1,10 @@
 // The table.
 ghost use Rattle.std.specs.Prelude.{◌≡◌, ◌+◌, ◌<◌, ◌≤◌, [], ◌∷◌, ◌++◌, Some, None, OnOk, OnSome, IfSome, option_copied, length, slice_get, slice_set};
-ghost use Rattle.connection_table.specs.Tables.{Open, Away, Ended, open_at, ending, open_count, IsNextOpen, NoneFrom, NoOpenBetween};
+ghost use Rattle.connection_table.specs.Tables.{Open, Away, Ended, open_at, ending, open_count, ends_of, IsNextOpen, NoneFrom, NoOpenBetween};
 ghost use Rattle.connection_table.specs.Places.{key_held};
 
 use crate::place::Place;
+use crate::places::PlaceList;
 use slab::Slab;
 use std::alloc::Global;
 use std::marker::Model;
@@ -13,13 +14,13 @@ use xp_base::NoMemory;
 #[derive(Drop)]
 pub struct Table<T: Drop, E: Drop> {
     open: Slab<T>,
-    places: Vec<Place<E>>,
+    places: PlaceList<E>,
     /// How many were taken out.
     away: usize,
 }
 
 impl<T: Drop, E: Drop> Model for Table<T, E> {
-    ghost use Rattle.std.specs.Prelude.{◌-◌, ◌+◌, min, vec_capacity, vec_len};
+    ghost use Rattle.std.specs.Prelude.{◌-◌, ◌+◌, min};
     ghost use Rattle.slab.specs.Slab.{slab_len};
     ghost use Rattle.connection_table.specs.Tables.{Table};
     ghost use Rattle.connection_table.specs.Places.{slots_of, IsTable};
@@ -27,16 +28,16 @@ impl<T: Drop, E: Drop> Model for Table<T, E> {
     ghost Value = { Table T E };
 
     ghost view = { λ t. record {
-      slots = slots_of t.open t.places.items;
-      room = min (vec_capacity t.places - vec_len t.places) (t.open.capacity - (slab_len t.open + t.away));
+      slots = slots_of t.open t.places.places;
+      room = min t.places.room (t.open.capacity - (slab_len t.open + t.away));
     } };
 
-    ghost invariant = { λ t. IsTable t.open t.places.items t.away };
+    ghost invariant = { λ t. IsTable t.open t.places.places t.away };
 }
 
 /// The key of a place, where it has one.
-fn key_at<E: Drop>(places: &[Place<E>], number: usize) -> Option<usize>
-    ensures { result ≡ key_held (slice_get places.now number) }
+fn key_at<E: Drop>(places: &PlaceList<E>, number: usize) -> Option<usize>
+    ensures { result ≡ key_held (slice_get places.now.places number) }
 {
     match places.get(number) {
         Some(Place::Open(key)) => Some(*key),
@@ -45,18 +46,13 @@ fn key_at<E: Drop>(places: &[Place<E>], number: usize) -> Option<usize>
 }
 
 /// One more of the places was taken out.
-fn one_more<E: Drop>(places: &[Place<E>], away: usize) -> usize
-    requires { away + 1 ≤ length places.now }
+fn one_more<E: Drop>(places: &PlaceList<E>, away: usize) -> usize
+    requires { away + 1 ≤ length places.now.places }
     ensures { result ≡ away + 1 }
 {
+    // for the proof: the number of places is a `usize`
+    let _count = places.len();
     away + 1
-}
-
-fn set_place<E: Drop>(places: &mut Vec<Place<E>>, number: usize, place: Place<E>)
-    requires { number < length places.old.items }
-    ensures { places.new.items ≡ slice_set places.old.items number place }
-{
-    places[number] = place;
 }
 
 impl<T: Drop, E: Drop> Table<T, E> {
@@ -66,7 +62,7 @@ impl<T: Drop, E: Drop> Table<T, E> {
     {
         Table {
             open: Slab::new(alloc),
-            places: Vec::new(alloc),
+            places: PlaceList::new(alloc),
             away: 0,
         }
     }
@@ -85,7 +81,7 @@ impl<T: Drop, E: Drop> Table<T, E> {
     {
         let more = self.away.checked_add(1).ok_or(NoMemory)?;
         self.open.reserve(more)?;
-        self.places.reserve(1)?;
+        self.places.reserve()?;
         Ok(())
     }
 
@@ -95,7 +91,7 @@ impl<T: Drop, E: Drop> Table<T, E> {
         ensures { self.new.slots ≡ self.old.slots ++ Open value ∷ [] }
     {
         let key = self.open.insert_reserved(value);
-        self.places.push_reserved(Place::Open(key));
+        self.places.push(Place::Open(key));
     }
 
     /// What is kept of the connection with this number, where it is open.
@@ -148,7 +144,7 @@ impl<T: Drop, E: Drop> Table<T, E> {
     {
         let key = key_at(&self.places, number)?;
         let value = self.open.remove(key);
-        set_place(&mut self.places, number, Place::Away);
+        self.places.set(number, Place::Away);
         self.away = one_more(&self.places, self.away);
         Some(value)
     }
@@ -159,7 +155,7 @@ impl<T: Drop, E: Drop> Table<T, E> {
         ensures { self.new.slots ≡ slice_set self.old.slots number (Open value) }
     {
         let key = self.open.insert_reserved(value);
-        set_place(&mut self.places, number, Place::Open(key));
+        self.places.set(number, Place::Open(key));
         self.away -= 1;
     }
 
@@ -168,7 +164,14 @@ impl<T: Drop, E: Drop> Table<T, E> {
         requires { slice_get self.old.slots number ≡ Some Away }
         ensures { self.new.slots ≡ slice_set self.old.slots number (Ended ended) }
     {
-        set_place(&mut self.places, number, Place::Ended(ended));
+        self.places.set(number, Place::Ended(ended));
         self.away -= 1;
+    }
+
+    /// How the connections ended that have, in the order of their numbers. It takes no memory.
+    pub fn into_ends(self) -> Vec<E>
+        ensures { result.items ≡ ends_of self.slots }
+    {
+        self.places.into_ends()
     }
 }

@@ -19,4 +19,4 @@ loop-number-preserved g c =
 pub returns-clause-none : goal.returns-clause-none
 returns-clause-none g c = λ no.
     none_from c.args.self.now.slots c.args.from c.loop-number.number c.loop-number.invariant.1
-    (let long = ap (λ (table : Table _ _). length table.slots) (sym c.self.view_is) ∙ length-map c.self.inside.places.items (slot_of c.self.inside.open) in let end = c.loop-number-test.false in let count = c.len.ensures in omega (arith, long, end, count))
+    (let long = ap (λ (table : Table _ _). length table.slots) (sym c.self.view_is) ∙ length-map c.self.inside.places.places (slot_of c.self.inside.open) in let end = c.loop-number-test.false in let count = c.len.ensures in omega (arith, long, end, count))

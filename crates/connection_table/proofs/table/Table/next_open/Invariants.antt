@@ -6,4 +6,4 @@ abbrev pub invariant-loop-number : goal.invariant-loop-number
 invariant-loop-number g l = (l.from ≤ l.number) × NoOpenBetween l.self.slots l.from l.number
 
 abbrev pub decreases-loop-number : goal.decreases-loop-number
-decreases-loop-number g l = length l.self-inside.places.items - l.number
+decreases-loop-number g l = length l.self-inside.places.places - l.number
