@@ -4,7 +4,7 @@ use Rattle.std.specs.Prelude.{slice_get}
 use Rattle.std.specs.Option.{option_map}
 use Rattle.std.proofs.lemmas.List.{map-append, map-set, length-map}
 use Rattle.std.proofs.lemmas.Option.{slice_get-map}
-use Rattle.connection_table.specs.Tables.{Slot, Open, Away, Ended, is_open, opened, open_at, open_count}
+use Rattle.connection_table.specs.Tables.{Slot, Open, Away, Ended, is_open, opened, open_at, open_count, ending}
 use Rattle.connection_ends.specs.declared.end.End.{End}
 use Rattle.open_connection.specs.Connection.{OpenSeen, ConnectionSeen, connection_in}
 use Rattle.session_state.specs.Views.{slot_in, slots_in}
@@ -36,6 +36,16 @@ pub view_open : (slots : List (Slot OpenSeen End)) (n : ℕ) → open_at (slots_
 view_open slots n = ap opened (view_at slots n) ∙ go (slice_get slots n)
   where
     go : (o : Option (Slot OpenSeen End)) → opened (option_map slot_in o) ≡ option_map connection_in (opened o)
+    go None = refl
+    go (Some (Open o)) = refl
+    go (Some Away) = refl
+    go (Some (Ended e)) = refl
+
+-- how one has ended
+pub view_ended : (slots : List (Slot OpenSeen End)) (n : ℕ) → ending (slice_get (slots_in slots) n) ≡ ending (slice_get slots n)
+view_ended slots n = ap ending (view_at slots n) ∙ go (slice_get slots n)
+  where
+    go : (o : Option (Slot OpenSeen End)) → ending (option_map slot_in o) ≡ ending o
     go None = refl
     go (Some (Open o)) = refl
     go (Some Away) = refl

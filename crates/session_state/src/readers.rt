@@ -1,9 +1,10 @@
 // What is asked of the connections.
-ghost use Rattle.std.specs.Prelude.{◌≡◌, ◌<◌, ◌^◌, None, IfSome, length};
-ghost use Rattle.connection_table.specs.Tables.{IsNextOpen, NoneFrom};
+ghost use Rattle.std.specs.Prelude.{◌≡◌, ◌<◌, ◌^◌, None, IfSome, length, slice_get, option_copied};
+ghost use Rattle.connection_table.specs.Tables.{IsNextOpen, NoneFrom, ending};
 ghost use Rattle.session_steps.specs.Drawing.{is_attached_at};
 
 use crate::state::State;
+use connection_ends::End;
 use link_bay::Bay;
 use xp_base::Conn;
 
@@ -18,6 +19,13 @@ impl<B: Bay + Drop> State<B> {
             Some(number) => Some(Conn(number as u32)),
             None => None,
         }
+    }
+
+    /// How the connection ended, where it has.
+    pub fn ended(&self, c: Conn) -> Option<&End>
+        ensures { option_copied result ≡ ending (slice_get self.now.slots c.0) }
+    {
+        self.table.ended(c.0 as usize)
     }
 
     /// Whether the connection is open and its hello was accepted.

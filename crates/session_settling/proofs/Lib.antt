@@ -1,0 +1,12 @@
+pub mod Acts
+pub mod Places
+pub mod Heard
+pub mod Readings
+pub mod Written
+pub mod Writings
+pub mod Drawings
+pub mod Nearing
+pub mod Staying
+pub mod Rested
+pub mod Turning
+pub mod Closed
