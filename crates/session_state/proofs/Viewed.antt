@@ -4,7 +4,7 @@ use Rattle.std.specs.Prelude.{slice_get}
 use Rattle.std.specs.Option.{option_map}
 use Rattle.std.proofs.lemmas.List.{map-append, map-set, length-map}
 use Rattle.std.proofs.lemmas.Option.{slice_get-map}
-use Rattle.connection_table.specs.Tables.{Slot, Open, Away, Ended, is_open, opened, open_at, open_count, ending}
+use Rattle.connection_table.specs.Tables.{Slot, Open, Away, Ended, is_open, opened, open_at, open_count, ending, ends_of}
 use Rattle.connection_ends.specs.declared.end.End.{End}
 use Rattle.open_connection.specs.Connection.{OpenSeen, ConnectionSeen, connection_in}
 use Rattle.session_state.specs.Views.{slot_in, slots_in}
@@ -80,3 +80,10 @@ view_away slots n is = go (slice_get slots n) (sym (view_at slots n) ∙ is)
     go (Some (Open o)) is = absurd (cc is)
     go (Some Away) is = refl
     go (Some (Ended e)) is = absurd (cc is)
+
+-- the ends of all that have ended
+pub view_ends : (slots : List (Slot OpenSeen End)) → ends_of (slots_in slots) ≡ ends_of slots
+view_ends [] = refl
+view_ends (Open o ∷ slots) = view_ends slots
+view_ends (Away ∷ slots) = view_ends slots
+view_ends (Ended e ∷ slots) = ap (λ (es : List End). e ∷ es) (view_ends slots)

@@ -2,6 +2,7 @@
 ghost use Rattle.std.specs.Prelude.{◌≡◌};
 ghost use Rattle.link_bay.specs.Answers.{OrderGives};
 ghost use Rattle.link_bay.specs.Connections.{AllStay};
+ghost use Rattle.connection_table.specs.Tables.{ends_of};
 ghost use Rattle.session_steps.specs.Laws.{begun};
 ghost use Rattle.session_steps.specs.Seen.{ticked};
 
@@ -115,5 +116,24 @@ impl<B: Bay + Drop> State<B> {
         ensures { result ≡ self.now.accept_failed }
     {
         self.accept_failed
+    }
+
+    /// The windows, the end of each connection that has ended, in the order of their numbers, and the provider. It takes no memory.
+    pub fn into_parts(self) -> (Desk, Vec<End>, B)
+        ensures desk { result.0 ≡ self.desk }
+        ensures ends { result.1.items ≡ ends_of self.slots }
+        ensures bay { result.2 ≡ self.bay }
+    {
+        let State {
+            alloc: _,
+            desk,
+            clock: _,
+            table,
+            ignored: _,
+            greeted: _,
+            accept_failed: _,
+            bay,
+        } = self;
+        (desk, table.into_ends(), bay)
     }
 }

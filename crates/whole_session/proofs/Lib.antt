@@ -1,0 +1,3 @@
+pub mod Desktops
+pub mod Lines
+pub mod Endings
