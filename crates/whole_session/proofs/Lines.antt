@@ -1,6 +1,6 @@
 -- A paint line, as the change that it is to each connection.
-use Rattle.std.proofs.Common.{◌≡◌, ℕ, zero, suc, ◌+◌, true, false, Some, List, [], ◌∷◌, ◌++◌, take, refl, sym, ap, ◌∙◌, subst, arith}
-use Rattle.std.specs.Prelude.{slice_get, Result, Ok, Err, OnOk, is_err}
+use Rattle.std.proofs.Common.{◌≡◌, ℕ, zero, suc, ◌+◌, ◌<◌, true, false, Some, List, length, [], ◌∷◌, ◌++◌, take, refl, sym, ap, ◌∙◌, subst, arith}
+use Rattle.std.specs.Prelude.{slice_get, Result, Ok, Err, OnOk, OnErr, is_err}
 use Rattle.std.proofs.lemmas.Option.{slice_get_within}
 use Rattle.window_model.specs.Desktop.{Window, IsDesktop, has_window}
 use Rattle.script_lines.specs.declared.paint.Paint.{Paint}
@@ -27,6 +27,10 @@ take_more xs n x is = ap (λ m. take m xs) (let same : n + 1 ≡ suc n = omega a
 pub where_ok : {T E P : Type 0} (r : Result T E) → OnOk r P → is_err r ≡ false → P
 where_ok (Ok x) on is = on
 where_ok (Err e) on is = absurd (cc is)
+
+pub where_err : {T E P : Type 0} (r : Result T E) → OnErr r P → is_err r ≡ true → P
+where_err (Ok x) on is = absurd (cc is)
+where_err (Err e) on is = on
 
 module _ {B : Type 0} (known : Known B) (changes : LineChanges) (lines : List Paint) (place : ℕ) (s : Seen B) (is : IsSession known lines place s) (line : Paint) (next : slice_get lines place ≡ Some line) where
   pub valid_here : IsPaintOn s.desk line
@@ -57,3 +61,10 @@ module _ {B : Type 0} (known : Known B) (changes : LineChanges) (lines : List Pa
   pub paints_next : (old : SessionSeen B) → record { lines = lines; place = place; seen = s } ≡ old → (new : Seen B) (then : ℕ) → then ≡ place + 1 → PaintsLine line s new → PaintsNext old (record { lines = lines; place = then; seen = new })
   paints_next old seen new then more paints = subst (λ (o : SessionSeen B). PaintsNext o (record { lines = lines; place = then; seen = new })) seen
       (record { line = line; next = next; paints = paints; lines = refl; place = more })
+
+  -- there was a line, and no memory for it
+  pub short_here : (old : SessionSeen B) → record { lines = lines; place = place; seen = s } ≡ old → (new : Seen B) → new ≡ s → (old.place < length old.lines) × (record { lines = lines; place = place; seen = new } ≡ old)
+  short_here old seen new same = (
+    subst (λ (o : SessionSeen B). o.place < length o.lines) seen (slice_get_within lines place line next),
+    ap (λ (t : Seen B). record { lines = lines; place = place; seen = t }) same ∙ seen,
+  )
