@@ -8,6 +8,7 @@ use Rattle.connection_ends.specs.declared.end.End.{End}
 use Rattle.connection_ends.specs.declared.end.End.TheVariants as E
 use Rattle.attached_client.specs.Client.{ClientSeen}
 use Rattle.open_connection.specs.Connection.{ConnectionSeen}
+use Rattle.session_settling.specs.Settled.{is_lost}
 use Rattle.session_steps.specs.Slots.{Slots, change_first, is_named, taken_over, overtaken}
 
 -- ---- one slot is another
@@ -43,19 +44,19 @@ open_slot slots k t is = go (slice_get slots k) is
 pub record StayBut (k : ℕ) (old new : Slots) : Type 0 where
   pub long : length new ≡ length old
   pub none : (j : ℕ) → open_at old j ≡ None → open_at new j ≡ None
-  pub short : (j : ℕ) → j ≢ k → slice_get new j ≡ Some (Ended E.Short) → slice_get old j ≡ Some (Ended E.Short)
+  pub lost : (j : ℕ) (e : End) → j ≢ k → is_lost e ≡ true → slice_get new j ≡ Some (Ended e) → slice_get old j ≡ Some (Ended e)
 
 pub stay_same : (k : ℕ) (slots : Slots) → StayBut k slots slots
-stay_same k slots = record { long = refl; none = λ j is. is; short = λ j apart is. is }
+stay_same k slots = record { long = refl; none = λ j is. is; lost = λ j e apart lost is. is }
 
 pub stay_both : (k : ℕ) (a b c : Slots) → StayBut k a b → StayBut k b c → StayBut k a c
-stay_both k a b c p q = record { long = q.long ∙ p.long; none = λ j is. q.none j (p.none j is); short = λ j apart is. p.short j apart (q.short j apart is) }
+stay_both k a b c p q = record { long = q.long ∙ p.long; none = λ j is. q.none j (p.none j is); lost = λ j e apart lost is. p.lost j e apart lost (q.lost j e apart lost is) }
 
 pub stay_put : (k : ℕ) (slots : Slots) (t : ConnectionSeen) (slot : Slot ConnectionSeen End) → open_at slots k ≡ Some t → StayBut k slots (set slots k slot)
 stay_put k slots t slot is = record {
   long = length-set slots k slot;
   none = λ j none. ap opened (set_other slots k slot j (λ same. let bad : None ≡ Some t = sym none ∙ ap (open_at slots) same ∙ is in absurd (cc bad))) ∙ none;
-  short = λ j apart now. sym (set_other slots k slot j apart) ∙ now;
+  lost = λ j e apart lost now. sym (set_other slots k slot j apart) ∙ now;
 }
 
 -- ---- a later connection takes earlier ones over
@@ -79,17 +80,17 @@ module _ (c : Conn) (uuid : List ℕ) where
   over_none (suc n) (Ended e ∷ slots) zero none = refl
   over_none (suc n) (s ∷ slots) (suc j) none = over_none n slots j none
 
-  over_short : (n : ℕ) (slots : Slots) (j : ℕ) → slice_get (change_first (taken_over c uuid) n slots) j ≡ Some (Ended E.Short) → slice_get slots j ≡ Some (Ended E.Short)
-  over_short zero slots j is = is
-  over_short (suc n) [] j is = is
-  over_short (suc n) (Open t ∷ slots) zero is = absurd (by_name (is_named uuid t.client) (let slot : taken_over c uuid (Open t) ≡ Ended E.Short = cc is in slot))
+  over_lost : (e : End) → is_lost e ≡ true → (n : ℕ) (slots : Slots) (j : ℕ) → slice_get (change_first (taken_over c uuid) n slots) j ≡ Some (Ended e) → slice_get slots j ≡ Some (Ended e)
+  over_lost e lost zero slots j is = is
+  over_lost e lost (suc n) [] j is = is
+  over_lost e lost (suc n) (Open t ∷ slots) zero is = absurd (by_name (is_named uuid t.client) (let slot : taken_over c uuid (Open t) ≡ Ended e = cc is in slot))
     where
-      by_name : (b : Bool) → cond b (Ended (E.TakenOver c)) (Open t) ≡ Ended E.Short → ⊥
-      by_name true bad = cc bad
+      by_name : (b : Bool) → cond b (Ended (E.TakenOver c)) (Open t) ≡ Ended e → ⊥
+      by_name true bad = let same : E.TakenOver c ≡ e = cc bad in let wrong : false ≡ true = ap is_lost same ∙ lost in cc wrong
       by_name false bad = cc bad
-  over_short (suc n) (Away ∷ slots) zero is = is
-  over_short (suc n) (Ended e ∷ slots) zero is = is
-  over_short (suc n) (s ∷ slots) (suc j) is = over_short n slots j is
+  over_lost e lost (suc n) (Away ∷ slots) zero is = is
+  over_lost e lost (suc n) (Ended e' ∷ slots) zero is = is
+  over_lost e lost (suc n) (s ∷ slots) (suc j) is = over_lost e lost n slots j is
 
 pub over_there : (c : Conn) (was : Bool) (after : Option ClientSeen) (slots : Slots) → slice_get (overtaken c was after slots) c.0 ≡ slice_get slots c.0
 over_there c was None slots = refl
@@ -102,7 +103,7 @@ stay_over c true (Some client) slots = stay_same c.0 slots
 stay_over c false (Some client) slots = record {
   long = first_long (taken_over c client.caps.uuid) c.0 slots;
   none = λ j none. over_none c client.caps.uuid c.0 slots j none;
-  short = λ j apart is. over_short c client.caps.uuid c.0 slots j is;
+  lost = λ j e apart lost is. over_lost c client.caps.uuid e lost c.0 slots j is;
 }
 
 -- ---- how many are open

@@ -6,7 +6,6 @@ use Rattle.xp_base.specs.declared.numbers.Conn.{Conn}
 use Rattle.link_bay.specs.Provider.{ProviderRecord}
 use Rattle.connection_table.specs.Tables.{Slot, Open, Away, Ended, open_at, open_count, ending, IsNextOpen}
 use Rattle.connection_ends.specs.declared.end.End.{End}
-use Rattle.connection_ends.specs.declared.end.End.TheVariants as E
 use Rattle.open_connection.specs.Connection.{ConnectionSeen, fresh}
 use Rattle.session_steps.specs.declared.answers.Accepted.{Accepted}
 use Rattle.session_steps.specs.declared.answers.Accepted.TheVariants as A
@@ -15,7 +14,7 @@ use Rattle.session_steps.specs.Slots.{Slots}
 use Rattle.session_steps.specs.Accepting.{Accepts}
 use Rattle.session_steps.specs.Settling.{Accepting, SettlingKeeps}
 use Rattle.session_settling.specs.Through.{IsSettling, GoesThrough, IsOn, IsAny}
-use Rattle.session_settling.specs.Settled.{LeavesNone, NoMoreShort, SettlesAll, MeetsFault, is_short_end, EndsNext}
+use Rattle.session_settling.specs.Settled.{LeavesNone, NoMoreLost, SettlesAll, MeetsFault, has_lost, EndsNext}
 use Rattle.session_settling.proofs.Acts.{one_act, both}
 use Rattle.session_settling.proofs.Places.{one_less_open}
 use Rattle.session_settling.proofs.Readings.{rose_later}
@@ -27,11 +26,11 @@ pub open_push : (slots : Slots) (t : ConnectionSeen) → open_count (slots ++ Op
 open_push [] t = omega arith
 open_push (s ∷ slots) t = let later = open_push slots t in omega (arith, later)
 
-push_short : (slots : Slots) (t : ConnectionSeen) (k : ℕ) → slice_get (slots ++ Open t ∷ []) k ≡ Some (Ended E.Short) → slice_get slots k ≡ Some (Ended E.Short)
-push_short [] t zero is = absurd (cc is)
-push_short [] t (suc k) is = is
-push_short (s ∷ slots) t zero is = is
-push_short (s ∷ slots) t (suc k) is = push_short slots t k is
+push_ended : (slots : Slots) (t : ConnectionSeen) (k : ℕ) (e : End) → slice_get (slots ++ Open t ∷ []) k ≡ Some (Ended e) → slice_get slots k ≡ Some (Ended e)
+push_ended [] t zero e is = absurd (cc is)
+push_ended [] t (suc k) e is = is
+push_ended (s ∷ slots) t zero e is = is
+push_ended (s ∷ slots) t (suc k) e is = push_ended slots t k e is
 
 pub none_open : (slots : Slots) → ((k : ℕ) → open_at slots k ≡ None) → open_count slots ≡ 0
 none_open [] none = refl
@@ -50,18 +49,18 @@ module _ {B : Type 0} (known : Known B) where
     pub asked : (known.provider now.bay).asked ≡ (known.provider old.bay).asked
     pub faults : (known.provider now.bay).faults ≡ (known.provider old.bay).faults
     pub lulls : (known.provider old.bay).lulls ≤ (known.provider now.bay).lulls
-    pub short : NoMoreShort old now
+    pub lost : NoMoreLost old now
 
   pub nothing_yet : (s : Seen B) → SoFar s s
-  nothing_yet s = record { asked = refl; faults = refl; lulls = omega arith; short = λ k is. is }
+  nothing_yet s = record { asked = refl; faults = refl; lulls = omega arith; lost = λ k e lost is. is }
 
   -- the provider as it was, and no end more for want of memory
-  pub so_far_on : (old now new : Seen B) → SoFar old now → known.provider new.bay ≡ known.provider now.bay → NoMoreShort now new → SoFar old new
-  so_far_on old now new so_far same short = record {
+  pub so_far_on : (old now new : Seen B) → SoFar old now → known.provider new.bay ≡ known.provider now.bay → NoMoreLost now new → SoFar old new
+  so_far_on old now new so_far same lost_on = record {
     asked = ap (λ (p : ProviderRecord). p.asked) same ∙ so_far.asked;
     faults = ap (λ (p : ProviderRecord). p.faults) same ∙ so_far.faults;
     lulls = let low = so_far.lulls in let is = ap (λ (p : ProviderRecord). p.lulls) same in omega (arith, low, is);
-    short = λ k is. so_far.short k (short k is);
+    lost = λ k e lost is. so_far.lost k e lost (lost_on k e lost is);
   }
 
   module _ (keeps : SettlingKeeps B) (old now mid : Seen B) (through : GoesThrough known IsAny old now) where
@@ -78,13 +77,13 @@ module _ {B : Type 0} (known : Known B) where
               asked = ap (λ (p : ProviderRecord). p.asked) gives.2 ∙ so_far.asked;
               faults = ap (λ (p : ProviderRecord). p.faults) gives.2 ∙ so_far.faults;
               lulls = let low = so_far.lulls in let is = ap (λ (p : ProviderRecord). p.lulls) gives.2 in omega (arith, low, is);
-              short = λ k is. so_far.short k (push_short now.slots fresh k (sym (ap (λ ss. slice_get ss k) slots) ∙ is));
+              lost = λ k e lost is. so_far.lost k e lost (push_ended now.slots fresh k e (sym (ap (λ ss. slice_get ss k) slots) ∙ is));
             },
             (let fewer = gives.1 in let more = ap (λ ss. open_count ss) slots ∙ open_push now.slots fresh in omega (arith, fewer, more)),
           )
 
-      nobody_short : Accepts known now A.Nobody mid → NoMoreShort old mid
-      nobody_short accepts k is = so_far.short k (sym (ap (λ (s : Seen B). slice_get s.slots k) accepts.1) ∙ is)
+      nobody_lost : Accepts known now A.Nobody mid → NoMoreLost old mid
+      nobody_lost accepts k e lost is = so_far.lost k e lost (sym (ap (λ (s : Seen B). slice_get s.slots k) accepts.1) ∙ is)
 
       -- nobody came
       pub nobody_came : Accepts known now A.Nobody mid → SoFar old mid
@@ -94,7 +93,7 @@ module _ {B : Type 0} (known : Known B) where
             asked = ap (λ (p : ProviderRecord). p.asked) gives.2 ∙ so_far.asked;
             faults = ap (λ (p : ProviderRecord). p.faults) gives.2 ∙ so_far.faults;
             lulls = let low = so_far.lulls in let later = gives.0.later in omega (arith, low, later);
-            short = nobody_short accepts;
+            lost = nobody_lost accepts;
           }
 
       pub nobody_left : Accepts known now A.Nobody mid → LeavesNone mid → SettlesAll known old mid
@@ -105,7 +104,7 @@ module _ {B : Type 0} (known : Known B) where
             served = λ tells. ap (λ (p : ProviderRecord). p.room) gives.2 ∙ gives.1 tells;
             faults = (nobody_came accepts).faults;
             none = none;
-            short = nobody_short accepts;
+            lost = nobody_lost accepts;
           }
 
       pub nobody_room : Accepts known now A.Nobody mid → (new : Seen B) → EndsNext known mid new
@@ -136,14 +135,14 @@ module _ {B : Type 0} (known : Known B) where
           let same = so_far.faults in
           record {
             faults = rose_later (known.provider old.bay).faults (known.provider now.bay).faults (known.provider mid.bay).faults (omega (arith, same)) gives.0;
-            short = λ k is. so_far.short k (sym (ap (λ (s : Seen B). slice_get s.slots k) accepts.1) ∙ is);
+            lost = λ k e lost is. so_far.lost k e lost (sym (ap (λ (s : Seen B). slice_get s.slots k) accepts.1) ∙ is);
           }
 
       pub failed_asked : Accepts known now A.Failed mid → (known.provider mid.bay).asked ≡ (known.provider old.bay).asked
       failed_asked accepts = ap (λ (p : ProviderRecord). p.asked) accepts.0.gives.1 ∙ so_far.asked
 
       pub no_memory : Accepts known now A.NoMemory mid → SoFar old mid
-      no_memory accepts = so_far_on old now mid so_far accepts.1.provider (λ k is. sym (ap (λ (s : Seen B). slice_get s.slots k) accepts.2) ∙ is)
+      no_memory accepts = so_far_on old now mid so_far accepts.1.provider (λ k e lost is. sym (ap (λ (s : Seen B). slice_get s.slots k) accepts.2) ∙ is)
 
   -- ---- the open connection of least number
 
@@ -153,9 +152,9 @@ module _ {B : Type 0} (known : Known B) where
         let left = leaves known c.0 old new settling through in
         record { provider = left.provider; fewer = one_less_open old.slots new.slots c.0 (next.there).0 left.slots.long left.slots.none (next.there).1 ended }
 
-    pub none_short : is_short_end (ending (slice_get new.slots c.0)) ≡ false → NoMoreShort old new
-    none_short well k is = go (cases_eq k c.0)
+    pub none_lost : has_lost (ending (slice_get new.slots c.0)) ≡ false → NoMoreLost old new
+    none_lost well k e lost is = go (cases_eq k c.0)
       where
-        go : (k ≡ c.0) ⊎ (k ≡ c.0 → ⊥) → slice_get old.slots k ≡ Some (Ended E.Short)
-        go (inl same) = let bad : false ≡ true = sym well ∙ ap (λ j. is_short_end (ending (slice_get new.slots j))) (sym same) ∙ ap (λ (o : Option (Slot ConnectionSeen End)). is_short_end (ending o)) is in absurd (cc bad)
-        go (inr other) = (leaves known c.0 old new settling through).slots.short k other is
+        go : (k ≡ c.0) ⊎ (k ≡ c.0 → ⊥) → slice_get old.slots k ≡ Some (Ended e)
+        go (inl same) = let bad : false ≡ true = sym well ∙ ap (λ j. has_lost (ending (slice_get new.slots j))) (sym same) ∙ ap (λ (o : Option (Slot ConnectionSeen End)). has_lost (ending o)) is ∙ lost in absurd (cc bad)
+        go (inr other) = (leaves known c.0 old new settling through).slots.lost k e other lost is

@@ -16,9 +16,23 @@ use Rattle.session_settling.specs.declared.turns.Next.TheVariants as N
 abbrev pub LeavesNone : {B : Type 0} → Seen B → Type 0
 LeavesNone s = (k : ℕ) → open_at s.slots k ≡ None
 
--- no connection more ended for want of memory
-abbrev pub NoMoreShort : {B : Type 0} → Seen B → Seen B → Type 0
-NoMoreShort old new = (k : ℕ) → slice_get new.slots k ≡ Some (Ended E.Short) → slice_get old.slots k ≡ Some (Ended E.Short)
+-- the ends that no settled connection has: for want of memory, and because the run stopped
+abbrev pub is_lost : End → Bool
+is_lost E.Settled = false
+is_lost E.Left = false
+is_lost (E.Refused fault) = false
+is_lost (E.Broken place fault) = false
+is_lost (E.TakenOver c) = false
+is_lost E.LinkFault = false
+is_lost E.Stalled = false
+is_lost E.Flooded = false
+is_lost E.Silent = false
+is_lost E.Short = true
+is_lost E.Unended = true
+
+-- no connection more ended so
+abbrev pub NoMoreLost : {B : Type 0} → Seen B → Seen B → Type 0
+NoMoreLost old new = (k : ℕ) (e : End) → is_lost e ≡ true → slice_get new.slots k ≡ Some (Ended e) → slice_get old.slots k ≡ Some (Ended e)
 
 -- nobody came any more, and none is open
 pub record SettlesAll {B : Type 0} (known : Known B) (old new : Seen B) : Type 0 where
@@ -26,12 +40,12 @@ pub record SettlesAll {B : Type 0} (known : Known B) (old new : Seen B) : Type 0
   pub served : known.tells ≡ true → (known.provider new.bay).room ≡ 0
   pub faults : (known.provider new.bay).faults ≡ (known.provider old.bay).faults
   pub none : LeavesNone new
-  pub short : NoMoreShort old new
+  pub lost : NoMoreLost old new
 
 -- an accept failed
 pub record MeetsFault {B : Type 0} (known : Known B) (old new : Seen B) : Type 0 where
   pub faults : Rose (known.provider old.bay).faults (known.provider new.bay).faults
-  pub short : NoMoreShort old new
+  pub lost : NoMoreLost old new
 
 abbrev pub SettlesAs : {B : Type 0} → Known B → Seen B → How → Seen B → Type 0
 SettlesAs known old H.Settled new = SettlesAll known old new
@@ -43,20 +57,10 @@ pub record SettledSo {B : Type 0} (known : Known B) (old : Seen B) (how : How) (
   pub asked : (known.provider new.bay).asked ≡ (known.provider old.bay).asked
   pub ends : SettlesAs known old how new
 
--- an end for want of memory
-abbrev pub is_short_end : Option End → Bool
-is_short_end None = false
-is_short_end (Some E.Settled) = false
-is_short_end (Some E.Left) = false
-is_short_end (Some (E.Refused fault)) = false
-is_short_end (Some (E.Broken place fault)) = false
-is_short_end (Some (E.TakenOver c)) = false
-is_short_end (Some E.LinkFault) = false
-is_short_end (Some E.Stalled) = false
-is_short_end (Some E.Flooded) = false
-is_short_end (Some E.Silent) = false
-is_short_end (Some E.Short) = true
-is_short_end (Some E.Unended) = false
+-- it ended so
+abbrev pub has_lost : Option End → Bool
+has_lost None = false
+has_lost (Some e) = is_lost e
 
 -- The open connection of least number has ended; or there was none. The provider was asked nothing.
 pub record EndsNext {B : Type 0} (known : Known B) (old new : Seen B) : Type 0 where
@@ -65,8 +69,8 @@ pub record EndsNext {B : Type 0} (known : Known B) (old new : Seen B) : Type 0 w
 
 abbrev pub NextEnds : {B : Type 0} → Known B → Seen B → Next → Seen B → Type 0
 NextEnds known old N.NoneOpen new = LeavesNone old × (new ≡ old)
-NextEnds known old N.Ended new = EndsNext known old new × NoMoreShort old new
-NextEnds known old N.Short new = EndsNext known old new
+NextEnds known old N.Ended new = EndsNext known old new × NoMoreLost old new
+NextEnds known old N.Lost new = EndsNext known old new
 
 -- each connection that was open is closed with the end `Unended`, and every other one is as before
 abbrev pub closed : Slot ConnectionSeen End → Slot ConnectionSeen End

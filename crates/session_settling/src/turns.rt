@@ -2,7 +2,7 @@
 ghost use Rattle.session_state.specs.Views.{known};
 ghost use Rattle.session_settling.specs.Through.{IsSettling, GoesThrough, IsAny};
 ghost use Rattle.std.specs.Prelude.{◌≡◌, option_copied};
-ghost use Rattle.session_settling.specs.Settled.{SettledSo, NextEnds, is_short_end, ClosesAll};
+ghost use Rattle.session_settling.specs.Settled.{SettledSo, NextEnds, has_lost, ClosesAll};
 
 use crate::rounds::settle_connection;
 use connection_ends::End;
@@ -35,12 +35,12 @@ pub fn settle<B: Bay + Drop>(state: &mut State<B>) -> How
             Accepted::NoMemory => return How::NoMemory,
             Accepted::Nobody => match settle_next(state) {
                 Next::Ended => {}
-                Next::Short => return How::NoMemory,
+                Next::Lost => return How::NoMemory,
                 Next::NoneOpen => return How::Settled,
             },
             Accepted::Full => match settle_next(state) {
                 Next::Ended => {}
-                Next::Short => return How::NoMemory,
+                Next::Lost => return How::NoMemory,
                 Next::NoneOpen => unreachable!(),
             },
         }
@@ -53,8 +53,8 @@ pub(crate) enum Next {
     NoneOpen,
     /// It has ended.
     Ended,
-    /// It has ended for want of memory.
-    Short,
+    /// It has ended for want of memory, or because the run stopped.
+    Lost,
 }
 
 /// Settles the open connection of least number.
@@ -67,16 +67,16 @@ fn settle_next<B: Bay + Drop>(state: &mut State<B>) -> Next
         return Next::NoneOpen;
     };
     settle_connection(state, c);
-    if is_short(state.ended(c)) {
-        return Next::Short;
+    if is_lost(state.ended(c)) {
+        return Next::Lost;
     }
     Next::Ended
 }
 
-fn is_short(end: Option<&End>) -> bool
-    ensures { result ≡ is_short_end (option_copied end.entry) }
+fn is_lost(end: Option<&End>) -> bool
+    ensures { result ≡ has_lost (option_copied end.entry) }
 {
-    matches!(end, Some(End::Short))
+    matches!(end, Some(End::Short | End::Unended))
 }
 
 /// Closes each connection that is open with the end `Unended`. It takes no memory.

@@ -34,8 +34,8 @@ turns-preserved-in-Ended g c = record {
   so_far = so_far_on (known g.B.Bay.tells g.B.Bay.provider g.B.Bay.connection) c.args.state.now c.accept.new.self c.settle_next.new.state (nobody_came (known g.B.Bay.tells g.B.Bay.provider g.B.Bay.connection) c.settling_keeps_a_session.ensures.keeps c.args.state.now c.turns.state c.accept.new.self c.turns.invariant.through c.turns.invariant.so_far c.in-Nobody.ensures) c.in-Ended.ensures.next.0.provider c.in-Ended.ensures.next.1;
 }
 
-pub returns-in-Short-clause-through : goal.returns-in-Short-clause-through
-returns-in-Short-clause-through g c = (both (known g.B.Bay.tells g.B.Bay.provider g.B.Bay.connection) c.settling_keeps_a_session.ensures.keeps IsAny c.args.state.now c.accept.new.self c.settle_next.new.state (accepts_on (known g.B.Bay.tells g.B.Bay.provider g.B.Bay.connection) c.settling_keeps_a_session.ensures.keeps c.args.state.now c.turns.state c.accept.new.self c.turns.invariant.through c.accept.result c.accept.ensures) c.settle_next.ensures.through)
+pub returns-in-Lost-clause-through : goal.returns-in-Lost-clause-through
+returns-in-Lost-clause-through g c = (both (known g.B.Bay.tells g.B.Bay.provider g.B.Bay.connection) c.settling_keeps_a_session.ensures.keeps IsAny c.args.state.now c.accept.new.self c.settle_next.new.state (accepts_on (known g.B.Bay.tells g.B.Bay.provider g.B.Bay.connection) c.settling_keeps_a_session.ensures.keeps c.args.state.now c.turns.state c.accept.new.self c.turns.invariant.through c.accept.result c.accept.ensures) c.settle_next.ensures.through)
 
 pub returns-in-NoneOpen-clause-through : goal.returns-in-NoneOpen-clause-through
 returns-in-NoneOpen-clause-through g c = (both (known g.B.Bay.tells g.B.Bay.provider g.B.Bay.connection) c.settling_keeps_a_session.ensures.keeps IsAny c.args.state.now c.accept.new.self c.settle_next.new.state (accepts_on (known g.B.Bay.tells g.B.Bay.provider g.B.Bay.connection) c.settling_keeps_a_session.ensures.keeps c.args.state.now c.turns.state c.accept.new.self c.turns.invariant.through c.accept.result c.accept.ensures) c.settle_next.ensures.through)
@@ -49,8 +49,8 @@ turns-preserved g c = record {
   so_far = so_far_on (known g.B.Bay.tells g.B.Bay.provider g.B.Bay.connection) c.args.state.now c.accept.new.self c.settle_next-in-Full.new.state (still_full (known g.B.Bay.tells g.B.Bay.provider g.B.Bay.connection) c.settling_keeps_a_session.ensures.keeps c.args.state.now c.turns.state c.accept.new.self c.turns.invariant.through c.turns.invariant.so_far c.in-Full.ensures) c.in-Ended-settle_next.ensures.next.0.provider c.in-Ended-settle_next.ensures.next.1;
 }
 
-pub returns-in-Short-settle_next-clause-through : goal.returns-in-Short-settle_next-clause-through
-returns-in-Short-settle_next-clause-through g c = (both (known g.B.Bay.tells g.B.Bay.provider g.B.Bay.connection) c.settling_keeps_a_session.ensures.keeps IsAny c.args.state.now c.accept.new.self c.settle_next-in-Full.new.state (accepts_on (known g.B.Bay.tells g.B.Bay.provider g.B.Bay.connection) c.settling_keeps_a_session.ensures.keeps c.args.state.now c.turns.state c.accept.new.self c.turns.invariant.through c.accept.result c.accept.ensures) c.settle_next-in-Full.ensures.through)
+pub returns-in-Lost-settle_next-clause-through : goal.returns-in-Lost-settle_next-clause-through
+returns-in-Lost-settle_next-clause-through g c = (both (known g.B.Bay.tells g.B.Bay.provider g.B.Bay.connection) c.settling_keeps_a_session.ensures.keeps IsAny c.args.state.now c.accept.new.self c.settle_next-in-Full.new.state (accepts_on (known g.B.Bay.tells g.B.Bay.provider g.B.Bay.connection) c.settling_keeps_a_session.ensures.keeps c.args.state.now c.turns.state c.accept.new.self c.turns.invariant.through c.accept.result c.accept.ensures) c.settle_next-in-Full.ensures.through)
 
 pub unreachable-requires : goal.unreachable-requires
 unreachable-requires g c = not_full (known g.B.Bay.tells g.B.Bay.provider g.B.Bay.connection) c.settling_keeps_a_session.ensures.keeps c.args.state.now c.turns.state c.accept.new.self c.turns.invariant.through c.turns.invariant.so_far c.in-Full.ensures c.in-NoneOpen-settle_next.ensures.next.0
